@@ -1,0 +1,4 @@
+mod files;
+mod outside;
+mod rows;
+mod run;

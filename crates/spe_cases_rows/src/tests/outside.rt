@@ -1,0 +1,104 @@
+//! What `rows` prints where its words are off, a file is refused, or the outside fails.
+
+use super::files::{PEOPLE, Patch, file_of, lay};
+use super::run::{disk_of, expect, run, sink_of};
+use std::test::Fail;
+
+// Words, and what is printed of them.
+static WORDS: [(&[&str], u8, &str); 7] = [
+    (&[], 1, "refused words\n"),
+    (&["rows"], 1, "refused words\n"),
+    (&["rows", "people.db"], 1, "refused words\n"),
+    (&["rows", "people.db", ""], 1, "refused words\n"),
+    (&["rows", "-people.db", "p"], 1, "refused words\n"),
+    (&["rows", "people.db", "p", "q"], 1, "refused words\n"),
+    (&["Rows", "people.db", "p"], 1, "refused words\n"),
+];
+
+#[test]
+fn words(rt: HostRuntime) -> Result<(), Fail> {
+    for (words, status, text) in &WORDS {
+        expect(&rt, rt.alloc(), *words, None, *status, *text)?;
+    }
+    Ok(())
+}
+
+// Bytes laid over the file `people.db`, how much of it is kept, and what is printed of it.
+static FILES: [(Patch, usize, &str); 21] = [
+    ((0, b""), 0, "refused header 1\n"),
+    ((0, b""), 99, "refused header 1\n"),
+    ((5, b"f"), 1024, "refused header 2\n"),
+    ((21, b"\x41"), 1024, "refused header 2\n"),
+    ((18, b"\x03"), 1024, "refused header 2\n"),
+    ((19, b"\x02"), 1024, "refused header 3\n"),
+    ((16, b"\x03\x00"), 1024, "refused header 4\n"),
+    ((55, b"\x01"), 1024, "refused header 5\n"),
+    ((59, b"\x02"), 1024, "refused header 6\n"),
+    ((20, b"\x21"), 1024, "refused header 7\n"),
+    ((47, b"\x03"), 1024, "refused header 8\n"),
+    // a freelist, a page missing from the file, a page that is cut off
+    ((35, b"\x02"), 1024, "refused not-built\n"),
+    ((31, b"\x03"), 1024, "refused not-built\n"),
+    ((0, b""), 1023, "refused not-built\n"),
+    // an interior page, cells that overlap, keys out of order, a reserved serial type
+    ((512, b"\x05"), 1024, "refused not-built\n"),
+    ((520, b"\x01\xf9"), 1024, "refused not-built\n"),
+    ((520, b"\x01\xf0\x01\xf8"), 1024, "refused not-built\n"),
+    ((1007, b"\x0a"), 1024, "refused not-built\n"),
+    // a root page past the file, the schema's own page as a root, another kind of type
+    ((462, b"\x03"), 1024, "refused not-built\n"),
+    ((462, b"\x01"), 1024, "refused not-built\n"),
+    ((455, b"tible"), 1024, "refused not-built\n"),
+];
+
+#[test]
+fn files(rt: HostRuntime) -> Result<(), Fail> {
+    let words = ["rows", "people.db", "p"];
+    for (patch, length, text) in &FILES {
+        let mut file = file_of(rt.alloc(), 1024, &PEOPLE)?;
+        lay(&mut file, &[*patch]);
+        file.truncate(*length);
+        expect(&rt, rt.alloc(), &words, Some(&file), 2, *text)?;
+    }
+    Ok(())
+}
+
+#[test]
+fn no_file(rt: HostRuntime) -> Result<(), Fail> {
+    let words = ["rows", "people.db", "p"];
+    expect(
+        &rt,
+        rt.alloc(),
+        &words,
+        None,
+        2,
+        "refused no-such-database\n",
+    )?;
+    Ok(())
+}
+
+// A reading call that fails, from the naming of the database to the page of the table.
+#[test]
+fn failing_reads(rt: HostRuntime) -> Result<(), Fail> {
+    for call in 1..=21 {
+        let file = file_of(rt.alloc(), 1024, &PEOPLE)?;
+        let disk = disk_of(rt.alloc(), Some(&file), &[call])?;
+        let sink = sink_of(rt.alloc(), 1 << 16, &[])?;
+        let ended = run(&rt, rt.alloc(), &["rows", "people.db", "p"], disk, sink)?;
+        assert_eq!(rt; ended.sink.as_slice(), b"fault disk\n".as_slice(), "{call}");
+        assert_eq!(rt; ended.status, 3);
+        assert_eq!(rt; ended.disk.faults(), 1);
+    }
+    Ok(())
+}
+
+#[test]
+fn failing_sink(rt: HostRuntime) -> Result<(), Fail> {
+    let file = file_of(rt.alloc(), 1024, &PEOPLE)?;
+    let disk = disk_of(rt.alloc(), Some(&file), &[])?;
+    let sink = sink_of(rt.alloc(), 8, &[2])?;
+    let ended = run(&rt, rt.alloc(), &["rows", "people.db", "p"], disk, sink)?;
+    assert_eq!(rt; ended.status, 3);
+    assert_eq!(rt; ended.sink.as_slice(), b"1|1|'ann".as_slice());
+    Ok(())
+}

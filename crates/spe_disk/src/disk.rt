@@ -1,0 +1,65 @@
+//! A disk as the engine sees it.
+
+ghost use Rattle.std.specs.Prelude.{◌≡◌, ℕ, Bool, true, false, Option, IfOk, ◌≤◌, length};
+ghost use Rattle.spe_model.specs.Content.{IsFile};
+ghost use Rattle.spe_model.specs.Trace.{History};
+ghost use Rattle.spe_model.specs.Faults.{HasCause};
+ghost use Rattle.spe_disk.specs.Told.{NothingDone, Finds, Measures, Reads};
+
+use spe_model::FileNo;
+
+/// The outside has failed.
+#[derive(Clone, Copy, Debug, PartialEq, Eq)]
+pub struct Failed;
+
+/// The files of one database.
+///
+/// A disk may tell what its files held when it was attached, and what was done to them since. One in
+/// memory does, and a real one does not. What the clauses say of bytes holds where the disk tells.
+pub trait Disk {
+    /// What the files held at attaching and the operations since, where the disk tells it.
+    ghost told: { Self → Option History };
+
+    /// Whether the database has been named.
+    ghost attached: { Self → Bool };
+
+    /// How often a reading call has failed, up to the greatest number of its type.
+    ghost read_faults: { Self → ℕ };
+
+    /// How often an operation has failed, up to the greatest number of its type.
+    ghost op_faults: { Self → ℕ };
+
+    /// Names the database, once and first. `false` exactly where there is no such file.
+    fn attach(&mut self, name: &str) -> Result<bool, Failed>
+        requires { attached self.old ≡ false }
+        ensures found { Finds (told self.old) result }
+        ensures same { told self.new ≡ told self.old }
+        ensures attached { attached self.new ≡ true }
+        ensures cause { HasCause (read_faults self.old) (read_faults self.new) result }
+        ensures operations { op_faults self.new ≡ op_faults self.old };
+
+    /// The length of a file in bytes, or `None` where the file is absent.
+    fn length(&mut self, file: FileNo) -> Result<Option<u64>, Failed>
+        requires attached { attached self.old ≡ true }
+        requires numbered { IsFile file }
+        ensures length { Measures (told self.old) file result }
+        ensures same { told self.new ≡ told self.old }
+        ensures attached { attached self.new ≡ true }
+        ensures cause { HasCause (read_faults self.old) (read_faults self.new) result }
+        ensures operations { op_faults self.new ≡ op_faults self.old };
+
+    /// Fills `buf` from byte `at` of a file on, and answers how many bytes there were: fewer than
+    /// `buf` has only at the file's end. The rest of `buf` becomes zeros. An absent file has none.
+    fn read_at(&mut self, file: FileNo, at: u64, buf: &mut [u8]) -> Result<usize, Failed>
+        requires attached { attached self.old ≡ true }
+        requires numbered { IsFile file }
+        ensures within { IfOk result (λ n. n ≤ length buf.old) }
+        ensures bytes { Reads (told self.old) file at (length buf.old) buf.new result }
+        ensures same { told self.new ≡ told self.old }
+        ensures attached { attached self.new ≡ true }
+        ensures cause { HasCause (read_faults self.old) (read_faults self.new) result }
+        ensures operations { op_faults self.new ≡ op_faults self.old };
+
+    /// Nothing was done before the database is named.
+    ghost fresh: { (d : Self) → attached d ≡ false → NothingDone (told d) };
+}

@@ -1,0 +1,4 @@
+pub mod VarintLemmas
+pub mod PageLemmas
+pub mod ViewLemmas
+pub mod LayoutLemmas

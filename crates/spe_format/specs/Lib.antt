@@ -1,0 +1,4 @@
+pub mod Answers
+pub mod Layout
+pub mod Spelling
+pub mod View

@@ -1,0 +1,20 @@
+//! The bytes of the pages of a database file: varints, and the cells of b-tree pages.
+//!
+//! Each reader answers exactly what the definitions of `spe_model` say of the bytes, or the lowest
+//! fault that holds there; want of memory alone is free.
+#![tactic(auto)]
+
+mod bytes;
+mod cell;
+mod kind;
+mod layout;
+mod page;
+mod varint;
+mod view;
+
+pub use cell::Parts;
+pub use kind::local_size;
+pub use page::read_page;
+pub use spe_model::{Cell, Cells, Header, HeaderFault, Kind, PageCells, PageFault, page_count};
+pub use varint::{put_varint, read_varint};
+pub use view::PageView;

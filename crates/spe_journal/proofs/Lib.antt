@@ -1,0 +1,8 @@
+mod BytesLemmas
+mod ChecksumLemmas
+mod RecordLemmas
+mod HeadLemmas
+mod PiecesLemmas
+mod KindLemmas
+mod TextLemmas
+mod WrittenLemmas

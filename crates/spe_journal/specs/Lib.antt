@@ -1,0 +1,4 @@
+pub mod Saved
+pub mod Kind
+pub mod Text
+pub mod Written

@@ -1,0 +1,15 @@
+pub mod Content
+pub mod Trace
+pub mod Faults
+pub mod Database
+pub mod Big
+pub mod Magic
+pub mod Header
+pub mod Varint
+pub mod Kind
+pub mod Cell
+pub mod Page
+pub mod Serial
+pub mod Record
+pub mod Journal
+pub mod Recovery

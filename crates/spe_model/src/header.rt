@@ -1,0 +1,189 @@
+//! The first hundred bytes of a database file.
+
+ghost use Rattle.std.specs.Prelude.{◌≡◌, ◌≢◌, ◌+◌, ◌<◌, ◌≤◌, ◌^◌, length};
+ghost use Rattle.spe_model.specs.Big.{u16_at, u32_at};
+ghost use Rattle.spe_model.specs.Header.{page_count_of};
+
+use byteorder::{BigEndian, ByteOrder};
+
+/// What the header of a database file names.
+///
+/// The fields are those of "The Database Header" in SQLite's Database File Format. Numbers are
+/// big-endian in the file.
+#[derive(Clone, Copy, Debug, PartialEq, Eq)]
+pub struct Header {
+    /// Bytes in a page: a power of two from 512 to 65536.
+    pub page_size: u32,
+    /// Bytes at the end of each page that no page uses.
+    pub reserved: u8,
+    /// The change counter.
+    pub change: u32,
+    /// The size in pages; it counts only where it is not 0 and `change` is `valid_for`.
+    pub pages: u32,
+    /// The first freelist trunk, or 0. In server form, the page that names the lists.
+    pub first_free: u32,
+    /// The number of free pages. In server form, 0.
+    pub free_count: u32,
+    /// The schema cookie.
+    pub cookie: u32,
+    /// The schema format: 0 or 4.
+    pub schema_format: u32,
+    /// The text encoding: 1, which is UTF-8. A file may have 0 in its place.
+    pub encoding: u32,
+    /// The change counter for which `pages` was written.
+    pub valid_for: u32,
+}
+
+/// Why bytes are no header that is read here. Where several hold, the lowest number is answered.
+#[derive(Clone, Copy, Debug, PartialEq, Eq)]
+pub enum HeaderFault {
+    /// There are fewer than 100 bytes.
+    Short = 1,
+    /// The first 16 bytes, the payload fractions or a version byte are not a database's.
+    NotADatabase = 2,
+    /// A version byte names the write-ahead log.
+    Wal = 3,
+    /// The page size is no power of two from 512 to 65536.
+    BadPageSize = 4,
+    /// The file has auto-vacuum.
+    AutoVacuum = 5,
+    /// The text encoding is not UTF-8.
+    Encoding = 6,
+    /// Fewer than 480 bytes of a page can be used.
+    Reserved = 7,
+    /// The schema format is neither 0 nor 4.
+    SchemaFormat = 8,
+}
+
+#[tactic(auto, unfolding(crate::specs::Big::u16_at))]
+fn u16_of(bytes: &[u8], at: usize) -> u16
+    requires { at + 2 ≤ length bytes.now }
+    ensures { result ≡ u16_at bytes.now at }
+{
+    BigEndian::read_u16(&bytes[at..])
+}
+
+#[tactic(auto, unfolding(crate::specs::Big::u32_at))]
+fn u32_of(bytes: &[u8], at: usize) -> u32
+    requires { at + 4 ≤ length bytes.now }
+    ensures { result ≡ u32_at bytes.now at }
+{
+    BigEndian::read_u32(&bytes[at..])
+}
+
+const MAGIC: &[u8; 16] = b"SQLite format 3\0";
+
+impl Header {
+    ghost use Rattle.std.specs.Prelude.{◌≡◌, ◌≤◌, length, IsTrue, IfOk};
+    ghost use Rattle.spe_model.specs.Header.{is_size_valid, IsSized, header_of, is_database, is_wal, is_page_size, page_size_at};
+
+    #[tactic(auto, unfolding(crate::specs::Header::is_database))]
+    fn is_database(bytes: &[u8]) -> bool
+        requires { 100 ≤ length bytes.now }
+        ensures { result ≡ is_database bytes.now }
+    {
+        bytes.starts_with(MAGIC)
+            && matches!(bytes[18], 1 | 2)
+            && matches!(bytes[19], 1 | 2)
+            && bytes[21] == 64
+            && bytes[22] == 32
+            && bytes[23] == 32
+    }
+
+    #[tactic(auto, unfolding(crate::specs::Header::is_wal))]
+    fn is_wal(bytes: &[u8]) -> bool
+        requires { 100 ≤ length bytes.now }
+        ensures { result ≡ is_wal bytes.now }
+    {
+        bytes[18] == 2 || bytes[19] == 2
+    }
+
+    #[tactic(auto, unfolding(crate::specs::Header::page_size_at))]
+    fn page_size_of(bytes: &[u8]) -> u32
+        requires { 100 ≤ length bytes.now }
+        ensures { result ≡ page_size_at bytes.now }
+    {
+        match u16_of(bytes, 16) {
+            1 => 65536,
+            size => u32::from(size),
+        }
+    }
+
+    #[tactic(auto, unfolding(crate::specs::Header::is_page_size))]
+    fn is_page_size(size: u32) -> bool
+        ensures value { result ≡ is_page_size size }
+        ensures within { IsTrue result → (512 ≤ size) × (size ≤ 65536) }
+    {
+        matches!(
+            size,
+            512 | 1024 | 2048 | 4096 | 8192 | 16384 | 32768 | 65536
+        )
+    }
+
+    /// Reads the header at the front of a database file, of which 100 bytes are looked at.
+    ///
+    /// The fault is the lowest that holds. A text encoding of 0 is taken as 1.
+    pub fn read(bytes: &[u8]) -> Result<Header, HeaderFault>
+        ensures header { result ≡ header_of bytes.now }
+        ensures sized { IfOk result IsSized }
+    {
+        if bytes.len() < 100 {
+            return Err(HeaderFault::Short);
+        }
+        if !Header::is_database(bytes) {
+            return Err(HeaderFault::NotADatabase);
+        }
+        if Header::is_wal(bytes) {
+            return Err(HeaderFault::Wal);
+        }
+        let page_size = Header::page_size_of(bytes);
+        if !Header::is_page_size(page_size) {
+            return Err(HeaderFault::BadPageSize);
+        }
+        if u32_of(bytes, 52) != 0 {
+            return Err(HeaderFault::AutoVacuum);
+        }
+        if u32_of(bytes, 56) > 1 {
+            return Err(HeaderFault::Encoding);
+        }
+        if page_size < u32::from(bytes[20]) + 480 {
+            return Err(HeaderFault::Reserved);
+        }
+        let schema_format = u32_of(bytes, 44);
+        if schema_format != 0 && schema_format != 4 {
+            return Err(HeaderFault::SchemaFormat);
+        }
+        Ok(Header {
+            page_size,
+            reserved: bytes[20],
+            change: u32_of(bytes, 24),
+            pages: u32_of(bytes, 28),
+            first_free: u32_of(bytes, 32),
+            free_count: u32_of(bytes, 36),
+            cookie: u32_of(bytes, 40),
+            schema_format,
+            encoding: 1,
+            valid_for: u32_of(bytes, 92),
+        })
+    }
+
+    /// Whether the size in pages that the header names counts.
+    pub fn is_size_valid(&self) -> bool
+        ensures { result ≡ is_size_valid self.now }
+    {
+        self.pages != 0 && self.change == self.valid_for
+    }
+}
+
+/// How many pages a file of `file_bytes` bytes with this header has: what the header names where
+/// that counts, else the whole pages of the file, and at least 1.
+pub fn page_count(header: &Header, file_bytes: u64) -> u64
+    requires { header.now.page_size ≢ 0 }
+    ensures { result ≡ page_count_of header.now file_bytes }
+{
+    if header.is_size_valid() {
+        u64::from(header.pages)
+    } else {
+        (file_bytes / u64::from(header.page_size)).max(1)
+    }
+}

@@ -1,0 +1,41 @@
+//! What recovery finds.
+
+use crate::header::HeaderFault;
+
+/// What the recovered pages are, once every hot journal was rolled back.
+#[derive(Clone, Copy, Debug, PartialEq, Eq)]
+pub struct Recovered {
+    /// Bytes in a page.
+    pub page_size: u32,
+    /// Bytes at the end of each page that no page uses.
+    pub reserved: u8,
+    /// The number of pages.
+    pub pages: u32,
+    /// The page that names the free lists, where the file is in server form.
+    pub node: Option<u32>,
+    /// A bit for each journal that was hot, journal 0 in the lowest.
+    pub rolled: u16,
+    /// How many operations recovery made.
+    pub ops: u64,
+}
+
+/// Why a set of files is not recovered. The first that holds is answered, in this order.
+#[derive(Clone, Copy, Debug, PartialEq, Eq)]
+pub enum RecoverFault {
+    /// The disk failed.
+    Disk,
+    /// The header of the file, or of the recovered page 1, has this fault.
+    Header(HeaderFault),
+    /// A journal has a head that names another page size than the file; the lowest such journal.
+    JournalPage { id: u8, size: u32 },
+    /// A page is in two hot journals; the least such page, and the two lowest journals.
+    Overlap { page: u32, a: u8, b: u8 },
+    /// The pages would take more than 2^30 bytes.
+    TooLarge { pages: u64 },
+    /// A page up to the page count is in no hot journal, and not whole in the file of so many bytes.
+    ShortFile { pages: u32, bytes: u64 },
+    /// The free lists are not in server form, or the size in pages does not count.
+    NotPrepared,
+    /// There was no memory.
+    Memory,
+}

@@ -1,0 +1,48 @@
+-- How a run of the program ends: what it printed, and its status.
+use Rattle.std.specs.Prelude.{◌≡◌, ℕ, ◌⊎◌, List, Option, Some, None, Result, Ok, Err, codes}
+use Rattle.spe_model.specs.Trace.{History}
+use Rattle.spe_disk.specs.Sink.{Appends, AppendsFront}
+use Rattle.spe_serve.specs.declared.reply.Reply.{Reply}
+use Rattle.spe_serve.specs.declared.stop.Stop.{Stop}
+use Rattle.spe_serve.specs.declared.stop.Stop.TheVariants as stops
+use Rattle.spe_serve.specs.declared.outcome.Outcome.{Outcome}
+use Rattle.spe_serve.specs.declared.outcome.Outcome.TheVariants.{Answered, DiskFailed, NoMemory}
+use Rattle.spe_serve.specs.Reply.{IsReply, text_of, status_of, line}
+
+-- the answer that the content at attaching asks for, where it is told
+abbrev pub IsToldReply : List (List ℕ) → Option History → Reply → Type 0
+IsToldReply words None reply = Unit {0}
+IsToldReply words (Some h) reply = IsReply words h.first reply
+
+-- An outcome is the answer to the words, or the disk's count of faults has risen, or memory ran out.
+abbrev pub IsOutcome : List (List ℕ) → Option History → Type 0 → Outcome → Type 0
+IsOutcome words told rose (Answered reply) = IsToldReply words told reply
+IsOutcome words told rose DiskFailed = rose
+IsOutcome words told rose NoMemory = Unit {0}
+
+-- what a search of the disk comes to; it does not stop for want of what is not built
+abbrev pub outcome_of : Result Reply Stop → Outcome
+outcome_of (Ok reply) = Answered reply
+outcome_of (Err stops.Disk) = DiskFailed
+outcome_of (Err stops.Memory) = NoMemory
+outcome_of (Err stops.NotBuilt) = NoMemory
+
+abbrev pub outcome_text : Outcome → List ℕ
+outcome_text (Answered reply) = text_of reply
+outcome_text DiskFailed = line (codes "fault disk")
+outcome_text NoMemory = line (codes "memory")
+
+abbrev pub outcome_status : Outcome → ℕ
+outcome_status (Answered reply) = status_of reply
+outcome_status DiskFailed = 3
+outcome_status NoMemory = 4
+
+-- The sink took the whole text, and the status is that of the outcome; or its count of faults has risen, it took some
+-- first bytes, and the status is 3.
+abbrev pub Prints : List ℕ → ℕ → Option (List ℕ) → Option (List ℕ) → Type 0 → ℕ → Type 0
+Prints text ending old new rose status = (Appends old new text × (status ≡ ending)) ⊎ (AppendsFront old new text × rose × (status ≡ 3))
+
+-- What was printed is the text of an outcome, and the status is its own.
+abbrev pub Ends : List (List ℕ) → Option History → Type 0 → Option (List ℕ) → Option (List ℕ) → Type 0 → ℕ → Type 0
+Ends words told disk_rose old new sink_rose status =
+    (outcome : Outcome) × IsOutcome words told disk_rose outcome × Prints (outcome_text outcome) (outcome_status outcome) old new sink_rose status

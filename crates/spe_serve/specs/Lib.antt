@@ -1,0 +1,9 @@
+pub mod Miss
+pub mod Words
+pub mod Definition
+pub mod Printed
+pub mod Small
+pub mod Reply
+pub mod Stop
+pub mod Kept
+pub mod Ending

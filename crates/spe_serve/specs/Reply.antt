@@ -1,0 +1,76 @@
+-- What the program answers.
+use Rattle.std.specs.Prelude.{◌≡◌, ℕ, List, [], ◌∷◌, ◌++◌, take, length, Option, Some, None, Result, Ok, Err, codes, if◌then◌else◌}
+use Rattle.std.specs.Fmt.{decimal}
+use Rattle.spe_model.specs.declared.header.Header.{Header}
+use Rattle.spe_model.specs.declared.header.HeaderFault.{HeaderFault}
+use Rattle.spe_model.specs.declared.header.HeaderFault.TheVariants as faults
+use Rattle.spe_model.specs.declared.file.FileNo.TheVariants as files
+use Rattle.spe_model.specs.Content.{Content, file_of}
+use Rattle.spe_model.specs.Header.{header_of}
+use Rattle.spe_model.specs.Database.{Database, Table, Other, Row}
+use Rattle.spe_serve.specs.declared.reply.Reply.{Reply}
+use Rattle.spe_serve.specs.declared.reply.Reply.TheVariants as replies
+use Rattle.spe_serve.specs.Definition.{agree}
+use Rattle.spe_serve.specs.Printed.{lines_of}
+use Rattle.spe_serve.specs.Small.{small_database}
+use Rattle.spe_serve.specs.Words.{IsRows, third}
+
+-- the rows of the table of this name
+abbrev pub rows_in : List ℕ → Database → Option (List Row)
+rows_in name [] = None
+rows_in name ((rowid, Table table rows) ∷ others) = if agree table.name name then Some rows else rows_in name others
+rows_in name ((rowid, Other kind named on) ∷ others) = rows_in name others
+
+abbrev pub reply_of_rows : Option (List Row) → Reply
+reply_of_rows None = replies.NoTable
+reply_of_rows (Some rows) = replies.Rows rows
+
+abbrev pub reply_of_database : List ℕ → Option Database → Reply
+reply_of_database name None = replies.NotBuilt
+reply_of_database name (Some db) = reply_of_rows (rows_in name db)
+
+abbrev pub reply_of_header : Content → List ℕ → List ℕ → Result Header HeaderFault → Reply
+reply_of_header content name file (Err fault) = replies.Header fault
+reply_of_header content name file (Ok h) = reply_of_database name (small_database content h file)
+
+abbrev pub reply_of_file : Content → List ℕ → Option (List ℕ) → Reply
+reply_of_file content name None = replies.NoDatabase
+reply_of_file content name (Some file) = reply_of_header content name file (header_of (take 100 file))
+
+-- the answer to `rows` of a table over a content
+abbrev pub rows_reply : Content → List ℕ → Reply
+rows_reply content name = reply_of_file content name (file_of content files.Database)
+
+abbrev pub IsReply : List (List ℕ) → Content → Reply → Type 0
+IsReply words content replies.Words = ¬ IsRows words
+IsReply words content reply = IsRows words × (reply ≡ rows_reply content (third words))
+
+abbrev pub number_of : HeaderFault → ℕ
+number_of faults.Short = 1
+number_of faults.NotADatabase = 2
+number_of faults.Wal = 3
+number_of faults.BadPageSize = 4
+number_of faults.AutoVacuum = 5
+number_of faults.Encoding = 6
+number_of faults.Reserved = 7
+number_of faults.SchemaFormat = 8
+
+-- a line
+abbrev pub line : List ℕ → List ℕ
+line text = text ++ 10 ∷ []
+
+abbrev pub text_of : Reply → List ℕ
+text_of replies.Words = line (codes "refused words")
+text_of replies.NoDatabase = line (codes "refused no-such-database")
+text_of (replies.Header fault) = line (codes "refused header " ++ decimal (number_of fault))
+text_of replies.NotBuilt = line (codes "refused not-built")
+text_of replies.NoTable = line (codes "refused no-table")
+text_of (replies.Rows rows) = lines_of rows ++ line (codes "rows " ++ decimal (length rows))
+
+abbrev pub status_of : Reply → ℕ
+status_of (replies.Rows rows) = 0
+status_of replies.Words = 1
+status_of replies.NoDatabase = 2
+status_of (replies.Header fault) = 2
+status_of replies.NotBuilt = 2
+status_of replies.NoTable = 2

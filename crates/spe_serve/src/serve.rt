@@ -1,0 +1,85 @@
+//! The top call.
+
+ghost use Rattle.std.specs.Prelude.{◌≡◌, ◌⊎◌, ◌≤◌, [], false};
+ghost use Rattle.spe_model.specs.Faults.{Rose};
+ghost use Rattle.spe_serve.specs.Ending.{Ends, Prints, outcome_text, outcome_status};
+
+use crate::outcome::{Outcome, carry_out};
+use crate::reply::{status, text};
+use spe_disk::{Disk, Gate, Scripts, Sink, put_all};
+use spe_model::{Commits, Words};
+use std::alloc::Global;
+use std::sync::Wait;
+use std::thread::Threads;
+
+/// How a run ended.
+#[derive(Debug, Drop)]
+pub struct Finished {
+    /// 0 where all is done, 1 where the words are no command, 2 where an input is refused, 3 where
+    /// the outside failed, and 4 where there was no memory.
+    pub status: u8,
+    /// The commits in their order; none for a command that serves no client.
+    pub order: Commits,
+}
+
+const FAULT: u8 = 3;
+
+const MEMORY: u8 = 4;
+
+// Puts a text, and answers the status: this one, or that of a fault.
+fn put<W: Sink>(out: &mut W, text: &[u8], status: u8) -> u8
+    ensures prints { Prints text.now status (W.taken out.old) (W.taken out.new) (Rose (W.faults out.old) (W.faults out.new)) result }
+{
+    match put_all(out, text) {
+        Ok(()) => status,
+        Err(_) => FAULT,
+    }
+}
+
+// Carries out some words and prints what there is to print.
+fn run<D: Disk, W: Sink>(alloc: Global, words: &Words, disk: &mut D, out: &mut W) -> u8
+    requires { D.attached disk.old ≡ false }
+    ensures ends { Ends words.now (D.told disk.old) (Rose (D.read_faults disk.old) (D.read_faults disk.new)) (W.taken out.old) (W.taken out.new) (Rose (W.faults out.old) (W.faults out.new)) result }
+    ensures fault { result ≡ 3 → Rose (D.read_faults disk.old) (D.read_faults disk.new) ⊎ Rose (W.faults out.old) (W.faults out.new) }
+    ensures same { D.told disk.new ≡ D.told disk.old }
+    ensures operations { D.op_faults disk.new ≡ D.op_faults disk.old }
+{
+    match carry_out(alloc, words.as_slice(), disk) {
+        Outcome::Answered(reply) => match text(alloc, &reply) {
+            Ok(text) => put(out, text.as_slice(), status(&reply)),
+            Err(_) => put(out, b"memory\n", MEMORY),
+        },
+        Outcome::DiskFailed => put(out, b"fault disk\n", FAULT),
+        Outcome::NoMemory => put(out, b"memory\n", MEMORY),
+    }
+}
+
+/// Does all that the program does with the words of its command line, the program's own name left
+/// out.
+///
+/// So far the one command is `rows DATABASE TABLE`, which prints the rows of a table. The disk is
+/// read and never written.
+pub fn spe<R: Threads + Wait + Sync, D: Disk + Send, C: Scripts, W: Sink, G: Gate + Sync>(
+    _rt: &R,
+    alloc: Global,
+    words: Words,
+    mut disk: D,
+    _scripts: &mut C,
+    out: &mut W,
+    _gate: &G,
+) -> (Finished, D)
+    requires { D.attached disk ≡ false }
+
+    // The text and the status are those of an outcome of the words.
+    ensures ends { Ends words (D.told disk) (Rose (D.read_faults disk) (D.read_faults result.1)) (W.taken out.old) (W.taken out.new) (Rose (W.faults out.old) (W.faults out.new)) result.0.status }
+    ensures fault { result.0.status ≡ 3 → Rose (D.read_faults disk) (D.read_faults result.1) ⊎ Rose (W.faults out.old) (W.faults out.new) }
+
+    // No operation is made or tried.
+    ensures same { D.told result.1 ≡ D.told disk }
+    ensures operations { D.op_faults result.1 ≡ D.op_faults disk }
+    ensures order { result.0.order ≡ [] }
+{
+    let status = run(alloc, &words, &mut disk, out);
+    let order = Commits::new(Vec::new(alloc));
+    (Finished { status, order }, disk)
+}
