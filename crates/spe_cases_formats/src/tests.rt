@@ -1,0 +1,4 @@
+mod journals;
+mod pages;
+mod records;
+mod varints;

@@ -1,0 +1,9 @@
+//! Tests of the table of lock words: worked rows, a table of the largest size, and threads that race.
+#![tactic(auto)]
+
+#[cfg(test)]
+mod fields;
+#[cfg(test)]
+mod race;
+#[cfg(test)]
+mod rows;

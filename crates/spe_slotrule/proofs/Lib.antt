@@ -1,0 +1,13 @@
+pub mod Lists
+pub mod Fields
+pub mod Alone
+pub mod Holding
+pub mod Standing
+pub mod Keeping
+pub mod Listing
+pub mod Looking
+pub mod Granting
+pub mod Drawing
+pub mod Cutting
+pub mod Joining
+pub mod Opening

@@ -1,0 +1,3 @@
+pub mod Seats
+pub mod Fresh
+pub mod Tries
