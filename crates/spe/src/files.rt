@@ -4,11 +4,10 @@ ghost use Rattle.std.specs.Prelude.{◌≡◌, ◌≤◌, length, IfOk};
 
 use spe_disk::{Disk, Failed, FileNo};
 use std::alloc::Global;
-use std::fs;
 use std::fs::File;
-use std::io;
 use std::os::unix::fs::FileExt;
 use std::rt::Files;
+use std::{fs, io};
 
 /// The database file of a name and its journals, which lie in the folder of that name with
 /// `-journal` behind it, each under its number with `-journal` behind it.
