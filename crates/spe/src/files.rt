@@ -3,8 +3,8 @@
 ghost use Rattle.std.specs.Prelude.{◌≡◌, ◌≤◌, length, IfOk};
 
 use spe_disk::{Disk, Failed, FileNo};
-use std::alloc::Global;
-use std::fs::File;
+use std::alloc::{AllocError, Global};
+use std::fs::{File, OpenOptions};
 use std::os::unix::fs::FileExt;
 use std::rt::Files;
 use std::{fs, io};
@@ -43,6 +43,17 @@ impl<'a, R: Files<File = File>> FileDisk<'a, R> {
         }
     }
 
+    // Counts an operation that failed.
+    fn count_op_fault(&mut self) -> Failed
+        ensures later { self.old.op_faults ≤ self.new.op_faults }
+        ensures rose { Rose self.old.op_faults self.new.op_faults }
+        ensures attached { self.new.attached ≡ self.old.attached }
+        ensures readings { self.new.read_faults ≡ self.old.read_faults }
+    {
+        self.op_faults = self.op_faults.saturating_add(1);
+        Failed
+    }
+
     // Counts a reading call that failed.
     fn count_fault(&mut self) -> Failed
         ensures later { self.old.read_faults ≤ self.new.read_faults }
@@ -66,10 +77,69 @@ impl<'a, R: Files<File = File>> FileDisk<'a, R> {
         there(fs::open(self.rt, name))
     }
 
-    fn open_journal(&self, number: u8) -> io::Result<Option<File>> {
+    fn journal_path(&self, number: u8) -> Result<String, AllocError> {
         let name = self.name.as_str();
-        let path = format!(in self.alloc; "{name}-journal/{number}-journal")?;
+        format!(in self.alloc; "{name}-journal/{number}-journal")
+    }
+
+    fn open_journal(&self, number: u8) -> io::Result<Option<File>> {
+        let path = self.journal_path(number)?;
         there(fs::open(self.rt, path.as_str()))
+    }
+
+    // Opens a file for writing. An absent journal is made.
+    fn open_to_write(&self, file: FileNo) -> io::Result<File> {
+        let mut how = OpenOptions::new();
+        how.write(true);
+        match file {
+            FileNo::Database => how.open(self.rt, self.name.as_str()),
+            FileNo::Journal(number) => {
+                let path = self.journal_path(number)?;
+                how.create(true);
+                how.open(self.rt, path.as_str())
+            }
+        }
+    }
+
+    fn write_to(&self, file: FileNo, at: u64, bytes: &[u8]) -> io::Result<()> {
+        if bytes.is_empty() {
+            return Ok(());
+        }
+        self.open_to_write(file)?.write_all_at(bytes, at)
+    }
+
+    fn cut_to(&self, file: FileNo, length: u64) -> io::Result<()> {
+        let file = self.open_to_write(file)?;
+        if length < file.metadata()?.len() {
+            file.set_len(length)?;
+        }
+        Ok(())
+    }
+
+    // Makes a journal where it is absent, and says whether it was.
+    fn make_journal(&self, number: u8) -> io::Result<bool> {
+        if self.open_journal(number)?.is_some() {
+            return Ok(false);
+        }
+        let _ = self.open_to_write(FileNo::Journal(number))?;
+        Ok(true)
+    }
+
+    fn make_absent(&self) -> io::Result<u8>
+        ensures { IfOk result (λ n. n ≤ 16) }
+    {
+        let name = self.name.as_str();
+        let folder = format!(in self.alloc; "{name}-journal")?;
+        if there(fs::metadata(self.rt, folder.as_str()))?.is_none() {
+            fs::create_dir(self.rt, folder.as_str())?;
+        }
+        let mut made = 0;
+        for number in 0..16 {
+            if self.make_journal(number)? {
+                made += 1;
+            }
+        }
+        Ok(made)
     }
 
     fn length_of(&self, file: FileNo) -> io::Result<Option<u64>> {
@@ -175,6 +245,27 @@ impl<R: Files<File = File>> Disk for FileDisk<'_, R> {
         match self.read_from(file, at, buf) {
             Ok(count) => Ok(count),
             Err(_) => Err(self.count_fault()),
+        }
+    }
+
+    fn write_at(&mut self, file: FileNo, at: u64, bytes: &[u8]) -> Result<(), Failed> {
+        match self.write_to(file, at, bytes) {
+            Ok(()) => Ok(()),
+            Err(_) => Err(self.count_op_fault()),
+        }
+    }
+
+    fn cut(&mut self, file: FileNo, length: u64) -> Result<(), Failed> {
+        match self.cut_to(file, length) {
+            Ok(()) => Ok(()),
+            Err(_) => Err(self.count_op_fault()),
+        }
+    }
+
+    fn make_journals(&mut self) -> Result<u8, Failed> {
+        match self.make_absent() {
+            Ok(made) => Ok(made),
+            Err(_) => Err(self.count_op_fault()),
         }
     }
 }

@@ -1,7 +1,10 @@
 pub mod Told
 pub mod Sink
 pub mod Scripts
-pub mod Spans
+pub mod Log
 pub mod Memory
+pub mod Stop
 pub mod MemSink
 pub mod MemScripts
+pub mod Held
+pub mod Listed

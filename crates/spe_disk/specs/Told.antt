@@ -1,10 +1,12 @@
 -- What a disk answers where it tells what its files hold.
-use Rattle.std.specs.Prelude.{◌≡◌, ℕ, ◌-◌, List, [], length, Option, Some, None, Result, Ok, Err, Bool, is_some, min}
+use Rattle.std.specs.Prelude.{◌≡◌, ℕ, ◌-◌, ◌⊎◌, List, [], ◌∷◌, ◌++◌, map, filter, length, Option, Some, None, Result, Ok, Err, Bool, is_some, is_none, min}
+use Rattle.std.specs.List.{range_with_len}
 use Rattle.std.specs.Option.{option_map}
 use Rattle.spe_model.specs.declared.file.FileNo.{FileNo}
-use Rattle.spe_model.specs.declared.file.FileNo.TheVariants.{Database}
+use Rattle.spe_model.specs.declared.file.FileNo.TheVariants.{Database, Journal}
 use Rattle.spe_model.specs.Content.{Content, file_of, bytes_of, filled}
-use Rattle.spe_model.specs.Trace.{History, present}
+use Rattle.spe_model.specs.Trace.{Operation, History, present}
+use Rattle.spe_model.specs.Trace.Operation.{Write, Cut}
 use Rattle.spe_disk.specs.declared.disk.Failed.{Failed}
 
 abbrev pub NothingDone : Option History → Type 0
@@ -30,3 +32,40 @@ abbrev pub Reads : Option History → FileNo → ℕ → ℕ → List ℕ → Re
 Reads told file at n bytes result =
     WhereTold told result
     (λ content count. (bytes ≡ filled (bytes_of content file) at n) × (count ≡ min n (length (bytes_of content file) - at)))
+
+-- the operations were added to the trace, and what the files held at attaching stays
+abbrev pub Adds : Option History → Option History → List Operation → Type 0
+Adds None new made = new ≡ None
+Adds (Some h) new made = new ≡ Some (record { first = h.first; trace = h.trace ++ made })
+
+-- The write was added. A call that failed added nothing, or a write of some first bytes.
+abbrev pub Writes : Option History → Option History → FileNo → ℕ → List ℕ → Result (Unit {0}) Failed → Type 0
+Writes old new file at bytes (Ok x) = Adds old new (Write file at bytes ∷ [])
+Writes old new file at bytes (Err e) = (new ≡ old) ⊎ ((front : List ℕ) × (rest : List ℕ) × (bytes ≡ front ++ rest) × Adds old new (Write file at front ∷ []))
+
+-- The cut was added. A call that failed added it, or nothing.
+abbrev pub Cuts : Option History → Option History → FileNo → ℕ → Result (Unit {0}) Failed → Type 0
+Cuts old new file size (Ok x) = Adds old new (Cut file size ∷ [])
+Cuts old new file size (Err e) = (new ≡ old) ⊎ Adds old new (Cut file size ∷ [])
+
+-- those of some numbers whose journal is not there
+unfoldable pub absent_among : Content → List ℕ → List ℕ
+absent_among content numbers = filter (λ n. is_none (file_of content (Journal n))) numbers
+
+-- those of the first n journals that are not there
+unfoldable pub absent_below : Content → ℕ → List ℕ
+absent_below content n = absent_among content (range_with_len 0 n)
+
+-- the numbers of the journals that are not there
+abbrev pub absent_journals : Content → List ℕ
+absent_journals content = absent_below content 16
+
+-- the operations that make some journals
+abbrev pub makings : List ℕ → List Operation
+makings numbers = map (λ n. Cut (Journal n) 0) numbers
+
+-- All absent journals were made, in ascending order. A call that failed made some first ones.
+abbrev pub MakesJournals : Option History → Option History → Result ℕ Failed → Type 0
+MakesJournals None new result = new ≡ None
+MakesJournals (Some h) new (Ok n) = (n ≡ length (absent_journals (present h))) × Adds (Some h) new (makings (absent_journals (present h)))
+MakesJournals (Some h) new (Err e) = (front : List ℕ) × (rest : List ℕ) × (absent_journals (present h) ≡ front ++ rest) × Adds (Some h) new (makings front)

@@ -4,7 +4,7 @@ ghost use Rattle.std.specs.Prelude.{◌≡◌, ℕ, Bool, true, false, Option, I
 ghost use Rattle.spe_model.specs.Content.{IsFile};
 ghost use Rattle.spe_model.specs.Trace.{History};
 ghost use Rattle.spe_model.specs.Faults.{HasCause};
-ghost use Rattle.spe_disk.specs.Told.{NothingDone, Finds, Measures, Reads};
+ghost use Rattle.spe_disk.specs.Told.{NothingDone, Finds, Measures, Reads, Writes, Cuts, MakesJournals};
 
 use spe_model::FileNo;
 
@@ -59,6 +59,36 @@ pub trait Disk {
         ensures attached { attached self.new ≡ true }
         ensures cause { HasCause (read_faults self.old) (read_faults self.new) result }
         ensures operations { op_faults self.new ≡ op_faults self.old };
+
+    /// Writes bytes to a file from byte `at` on. A gap between the file's end and `at` becomes zeros,
+    /// and writing no bytes changes nothing. A call that failed has written some first bytes, or none.
+    fn write_at(&mut self, file: FileNo, at: u64, bytes: &[u8]) -> Result<(), Failed>
+        requires attached { attached self.old ≡ true }
+        requires numbered { IsFile file }
+        ensures written { Writes (told self.old) (told self.new) file at bytes.now result }
+        ensures attached { attached self.new ≡ true }
+        ensures cause { HasCause (op_faults self.old) (op_faults self.new) result }
+        ensures readings { read_faults self.new ≡ read_faults self.old };
+
+    /// Cuts a file to at most this many bytes; an absent file becomes one of none. A call that failed
+    /// has cut it or has not.
+    fn cut(&mut self, file: FileNo, length: u64) -> Result<(), Failed>
+        requires attached { attached self.old ≡ true }
+        requires numbered { IsFile file }
+        ensures cut { Cuts (told self.old) (told self.new) file length result }
+        ensures attached { attached self.new ≡ true }
+        ensures cause { HasCause (op_faults self.old) (op_faults self.new) result }
+        ensures readings { read_faults self.new ≡ read_faults self.old };
+
+    /// Makes each absent journal, with no bytes, in ascending order, and answers how many there were. A
+    /// call that failed has made some first ones, or none.
+    fn make_journals(&mut self) -> Result<u8, Failed>
+        requires attached { attached self.old ≡ true }
+        ensures within { IfOk result (λ n. n ≤ 16) }
+        ensures made { MakesJournals (told self.old) (told self.new) result }
+        ensures attached { attached self.new ≡ true }
+        ensures cause { HasCause (op_faults self.old) (op_faults self.new) result }
+        ensures readings { read_faults self.new ≡ read_faults self.old };
 
     /// Nothing was done before the database is named.
     ghost fresh: { (d : Self) → attached d ≡ false → NothingDone (told d) };

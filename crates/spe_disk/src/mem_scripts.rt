@@ -17,12 +17,14 @@ pub struct MemScripts {
 
 impl MemScripts {
     ghost use Rattle.std.specs.Prelude.{◌≡◌, ◌≢◌, List, ℕ, OnOk, OnErr, None, Some};
-    ghost use Rattle.spe_disk.specs.MemScripts.{texts_of, script_faults};
+    ghost use Rattle.spe_disk.specs.MemScripts.{texts_of, script_faults, script_reads, listed_reads};
 
     /// No texts. `fails` lists the calls of `read` that fail, counted from 1.
     pub fn new(alloc: Global, fails: Numbers) -> MemScripts
         ensures no_texts { (name : List ℕ) → texts_of result name ≡ None }
         ensures no_faults { script_faults result ≡ 0 }
+        ensures no_reads { script_reads result ≡ 0 }
+        ensures fails { listed_reads result ≡ fails }
     {
         MemScripts {
             alloc,
@@ -40,6 +42,8 @@ impl MemScripts {
         ensures others { OnOk result ((other : List ℕ) → other ≢ name.now → texts_of self.new other ≡ texts_of self.old other) }
         ensures same { OnErr result ((other : List ℕ) → texts_of self.new other ≡ texts_of self.old other) }
         ensures faults { script_faults self.new ≡ script_faults self.old }
+        ensures reads { script_reads self.new ≡ script_reads self.old }
+        ensures fails { listed_reads self.new ≡ listed_reads self.old }
     {
         let name = String::from_str(self.alloc, name)?;
         let text = Vec::from_slice(self.alloc, bytes)?;
@@ -51,14 +55,20 @@ impl MemScripts {
 }
 
 impl Scripts for MemScripts {
-    ghost use Rattle.std.specs.Prelude.{Some};
-    ghost use Rattle.spe_disk.specs.MemScripts.{texts_of, script_faults};
+    ghost use Rattle.std.specs.Prelude.{◌≡◌, Some};
+    ghost use Rattle.spe_disk.specs.Scripts.{ReadsText, HasScriptCause};
+    ghost use Rattle.spe_disk.specs.MemScripts.{texts_of, script_faults, ScriptsAsListed};
 
     ghost texts = { λ s. Some (texts_of s) };
 
     ghost faults = { script_faults };
 
-    fn read(&mut self, alloc: Global, name: &str) -> Result<Option<Vec<u8>>, ScriptFault> {
+    fn read(&mut self, alloc: Global, name: &str) -> Result<Option<Vec<u8>>, ScriptFault>
+        ensures text { ReadsText (Some (texts_of self.old)) name.now result }
+        ensures same { Some (texts_of self.new) ≡ Some (texts_of self.old) }
+        ensures cause { HasScriptCause (script_faults self.old) (script_faults self.new) result }
+        ensures listed { ScriptsAsListed self.old self.new result }
+    {
         self.calls = self.calls.saturating_add(1);
         if self.failing.as_slice().contains(&self.calls) {
             self.faults = self.faults.saturating_add(1);

@@ -22,7 +22,7 @@ pub struct MemSink {
 
 impl MemSink {
     ghost use Rattle.std.specs.Prelude.{◌≡◌, [], IfOk};
-    ghost use Rattle.spe_disk.specs.MemSink.{bytes_taken, sink_faults};
+    ghost use Rattle.spe_disk.specs.MemSink.{bytes_taken, sink_faults, put_count, sink_room, most_taken, listed_puts};
 
     /// An empty sink with room for this many bytes, which takes at most `most` of them a call.
     ///
@@ -36,6 +36,10 @@ impl MemSink {
     ) -> Result<MemSink, AllocError>
         ensures nothing_taken { IfOk result (λ s. bytes_taken s ≡ []) }
         ensures no_faults { IfOk result (λ s. sink_faults s ≡ 0) }
+        ensures no_puts { IfOk result (λ s. put_count s ≡ 0) }
+        ensures room { IfOk result (λ s. sink_room s ≡ room) }
+        ensures most { IfOk result (λ s. most_taken s ≡ most) }
+        ensures fails { IfOk result (λ s. listed_puts s ≡ fails) }
     {
         Ok(MemSink {
             room,
@@ -56,14 +60,20 @@ impl MemSink {
 }
 
 impl Sink for MemSink {
-    ghost use Rattle.std.specs.Prelude.{Some};
-    ghost use Rattle.spe_disk.specs.MemSink.{bytes_taken, sink_faults};
+    ghost use Rattle.std.specs.Prelude.{◌≤◌, Some, IfOk, length};
+    ghost use Rattle.spe_disk.specs.Sink.{Takes, HasSinkCause};
+    ghost use Rattle.spe_disk.specs.MemSink.{bytes_taken, sink_faults, PutsAsListed};
 
     ghost taken = { λ s. Some (bytes_taken s) };
 
     ghost faults = { sink_faults };
 
-    fn put(&mut self, bytes: &[u8]) -> Result<usize, Failed> {
+    fn put(&mut self, bytes: &[u8]) -> Result<usize, Failed>
+        ensures within { IfOk result (λ n. n ≤ length bytes.now) }
+        ensures takes { Takes (Some (bytes_taken self.old)) (Some (bytes_taken self.new)) bytes.now result }
+        ensures cause { HasSinkCause (sink_faults self.old) (sink_faults self.new) bytes.now result }
+        ensures listed { PutsAsListed self.old self.new bytes.now result }
+    {
         self.calls = self.calls.saturating_add(1);
         let free = self.room - self.store.len();
         let count = bytes.len().min(free).min(self.most);
