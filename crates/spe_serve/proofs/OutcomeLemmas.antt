@@ -1,23 +1,17 @@
 -- The outcome of a search of the disk.
-use Rattle.std.proofs.Common.{◌≡◌, ℕ, ◌≤◌, List, [], take, ap, ◌∙◌, sym, refl, arith, true, Option, Some, None, Result, Ok, Err}
+use Rattle.std.proofs.Common.{◌≡◌, ℕ, ◌≤◌, List, [], ap, ◌∙◌, sym, refl, arith, true, Option, Some, None, Result, Ok, Err}
 use Rattle.std.specs.Prelude.{IfOk, IfErr, is_some, unwrap_or}
 use Rattle.spe_model.specs.declared.file.FileNo.TheVariants.{Database}
 use Rattle.spe_model.specs.Content.{Content, file_of, bytes_of}
 use Rattle.spe_model.specs.Trace.{History, present, after}
 use Rattle.spe_model.specs.Faults.{Rose}
-use Rattle.spe_model.specs.Header.{header_of}
-use Rattle.spe_model.specs.Database as databases
-use Rattle.spe_model.specs.Database.{Row}
-use Rattle.spe_model.specs.declared.header.Header.{Header}
-use Rattle.spe_model.specs.declared.header.HeaderFault.{HeaderFault}
-use Rattle.spe_serve.specs.Small.{small_database}
 use Rattle.spe_disk.specs.Told.{Finds, NothingDone}
 use Rattle.spe_serve.specs.declared.reply.Reply.{Reply}
 use Rattle.spe_serve.specs.declared.reply.Reply.TheVariants as replies
 use Rattle.spe_serve.specs.declared.stop.Stop.{Stop}
 use Rattle.spe_serve.specs.declared.stop.Stop.TheVariants as stops
 use Rattle.spe_serve.specs.Words.{IsRows, third}
-use Rattle.spe_serve.specs.Reply.{IsReply, rows_in, rows_reply, reply_of_file, reply_of_header, reply_of_database, reply_of_rows}
+use Rattle.spe_serve.specs.Reply.{IsReply, IsAboutRows, FitsWords, rows_reply, reply_of_file}
 use Rattle.spe_serve.specs.Stop.{WhereTold, IsCausedBy}
 use Rattle.spe_serve.specs.Ending.{IsOutcome, outcome_of}
 
@@ -28,42 +22,35 @@ some_bytes : (o : Option (List ℕ)) → true ≡ is_some o → o ≡ Some (unwr
 some_bytes None e = absurd cc
 some_bytes (Some bytes) e = refl
 
-rows_answer : (found : Option (List Row)) → reply_of_rows found ≡ replies.Words → ⊥
-rows_answer None e = cc
-rows_answer (Some rows) e = cc
-
-database_answers : (name : List ℕ) (db : Option databases.Database) → reply_of_database name db ≡ replies.Words → ⊥
-database_answers name None e = cc
-database_answers name (Some db) e = rows_answer (rows_in name db) e
-
-header_answers : (content : Content) (name file : List ℕ) (read : Result Header HeaderFault) → reply_of_header content name file read ≡ replies.Words → ⊥
-header_answers content name file (Err fault) e = cc
-header_answers content name file (Ok h) e = database_answers name (small_database content h file) e
-
-file_answers : (content : Content) (name : List ℕ) (file : Option (List ℕ)) → reply_of_file content name file ≡ replies.Words → ⊥
-file_answers content name None e = cc
-file_answers content name (Some file) e = header_answers content name file (header_of (take 100 file)) e
-
 -- an answer about rows, to words that ask for them
-is_reply : (words : List (List ℕ)) (content : Content) (reply : Reply) → IsRows words → rows_reply content (third words) ≡ reply → IsReply words content reply
-is_reply words content replies.Words rows e = absurd (file_answers content (third words) (file_of content Database) e)
-is_reply words content replies.NoDatabase rows e = (rows, sym e)
-is_reply words content (replies.Header fault) rows e = (rows, sym e)
-is_reply words content replies.NotBuilt rows e = (rows, sym e)
-is_reply words content replies.NoTable rows e = (rows, sym e)
-is_reply words content (replies.Rows found) rows e = (rows, sym e)
+is_reply : (words : List (List ℕ)) (content : Content) (reply : Reply) → IsRows words → IsAboutRows reply → rows_reply content (third words) ≡ reply
+    → IsReply words content reply
+is_reply words content replies.Words rows about e = absurd about
+is_reply words content replies.NoDatabase rows about e = (rows, sym e)
+is_reply words content (replies.Header fault) rows about e = (rows, sym e)
+is_reply words content replies.NotBuilt rows about e = (rows, sym e)
+is_reply words content replies.NoTable rows about e = (rows, sym e)
+is_reply words content (replies.Rows found) rows about e = (rows, sym e)
+
+fits_words : (words : List (List ℕ)) (reply : Reply) → IsRows words → IsAboutRows reply → FitsWords words reply
+fits_words words replies.Words rows about = absurd about
+fits_words words replies.NoDatabase rows about = rows
+fits_words words (replies.Header fault) rows about = rows
+fits_words words replies.NotBuilt rows about = rows
+fits_words words replies.NoTable rows about = rows
+fits_words words (replies.Rows found) rows about = rows
 
 pub is_outcome : (words : List (List ℕ)) (told new : Option History) (result : Result Reply Stop) (before mid now : ℕ) → IsRows words → NothingDone told
     → new ≡ told → Finds told (Ok true)
     → IfOk result (λ reply. WhereTold new (λ content. reply_of_file content (third words) (Some (bytes_of content Database)) ≡ reply))
-    → before ≤ mid → IfErr result (IsCausedBy mid now) → IsOutcome words told (Rose before now) (outcome_of result)
-is_outcome words told new (Err stops.Disk) before mid now rows fresh same found ok later err = rose_later before mid now later err
-is_outcome words told new (Err stops.Memory) before mid now rows fresh same found ok later err = tt
-is_outcome words told new (Err stops.NotBuilt) before mid now rows fresh same found ok later err = tt
-is_outcome words None new (Ok reply) before mid now rows fresh same found ok later err = tt
-is_outcome words (Some h) new (Ok reply) before mid now rows fresh same found ok later err =
+    → IfOk result IsAboutRows → before ≤ mid → IfErr result (IsCausedBy mid now) → IsOutcome words told (Rose before now) (outcome_of result)
+is_outcome words told new (Err stops.Disk) before mid now rows fresh same found ok about later err = rose_later before mid now later err
+is_outcome words told new (Err stops.Memory) before mid now rows fresh same found ok about later err = tt
+is_outcome words told new (Err stops.NotBuilt) before mid now rows fresh same found ok about later err = tt
+is_outcome words None new (Ok reply) before mid now rows fresh same found ok about later err = fits_words words reply rows about
+is_outcome words (Some h) new (Ok reply) before mid now rows fresh same found ok about later err =
     let first : present h ≡ h.first = ap (after h.first) fresh in
     let there : file_of (present h) Database ≡ Some (bytes_of (present h) Database) = some_bytes (file_of (present h) Database) found in
     let told : reply_of_file (present h) (third words) (Some (bytes_of (present h) Database)) ≡ reply = rw same at ok in
     let now_told : rows_reply (present h) (third words) ≡ reply = ap (reply_of_file (present h) (third words)) there ∙ told in
-    is_reply words h.first reply rows (ap (λ (c : Content). rows_reply c (third words)) (sym first) ∙ now_told)
+    is_reply words h.first reply rows about (ap (λ (c : Content). rows_reply c (third words)) (sym first) ∙ now_told)

@@ -1,12 +1,10 @@
 -- A search through the tables of a database.
-use Rattle.std.proofs.Common.{◌≡◌, ℕ, ℤ, List, ◌∷◌, Option, Some, None}
+use Rattle.std.proofs.Common.{◌≡◌, ℕ, List, Option, Some, None}
 use Rattle.std.specs.Option.{option_map}
 use Rattle.spe_model.specs.declared.header.Header.{Header}
-use Rattle.spe_model.specs.declared.table.TableDef.{TableDef}
 use Rattle.spe_model.specs.declared.file.FileNo.TheVariants.{Database as TheDatabase}
-use Rattle.spe_model.specs.Cell.{◌>>=◌}
 use Rattle.spe_model.specs.Content.{Content, bytes_of}
-use Rattle.spe_model.specs.Database.{Database, Table, Row}
+use Rattle.spe_model.specs.Database.{Database, Row}
 use Rattle.spe_serve.specs.declared.schema.Entry.{Entry}
 use Rattle.spe_serve.specs.Reply.{rows_in}
 use Rattle.spe_serve.specs.Small.{objects_of}

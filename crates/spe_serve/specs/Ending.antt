@@ -7,11 +7,11 @@ use Rattle.spe_serve.specs.declared.stop.Stop.{Stop}
 use Rattle.spe_serve.specs.declared.stop.Stop.TheVariants as stops
 use Rattle.spe_serve.specs.declared.outcome.Outcome.{Outcome}
 use Rattle.spe_serve.specs.declared.outcome.Outcome.TheVariants.{Answered, DiskFailed, NoMemory}
-use Rattle.spe_serve.specs.Reply.{IsReply, text_of, status_of, line}
+use Rattle.spe_serve.specs.Reply.{IsReply, FitsWords, text_of, status_of, line}
 
--- the answer that the content at attaching asks for, where it is told
+-- the answer that the content at attaching asks for, where it is told; else one that fits the words
 abbrev pub IsToldReply : List (List ℕ) → Option History → Reply → Type 0
-IsToldReply words None reply = Unit {0}
+IsToldReply words None reply = FitsWords words reply
 IsToldReply words (Some h) reply = IsReply words h.first reply
 
 -- An outcome is the answer to the words, or the disk's count of faults has risen, or memory ran out.

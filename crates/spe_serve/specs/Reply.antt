@@ -41,9 +41,24 @@ reply_of_file content name (Some file) = reply_of_header content name file (head
 abbrev pub rows_reply : Content → List ℕ → Reply
 rows_reply content name = reply_of_file content name (file_of content files.Database)
 
+-- an answer to words that ask for rows
+abbrev pub IsAboutRows : Reply → Type 0
+IsAboutRows replies.Words = ⊥
+IsAboutRows replies.NoDatabase = Unit {0}
+IsAboutRows (replies.Header fault) = Unit {0}
+IsAboutRows replies.NotBuilt = Unit {0}
+IsAboutRows replies.NoTable = Unit {0}
+IsAboutRows (replies.Rows rows) = Unit {0}
+
+-- the answer to these words over a content
 abbrev pub IsReply : List (List ℕ) → Content → Reply → Type 0
 IsReply words content replies.Words = ¬ IsRows words
 IsReply words content reply = IsRows words × (reply ≡ rows_reply content (third words))
+
+-- an answer to these words over a content that is not told
+abbrev pub FitsWords : List (List ℕ) → Reply → Type 0
+FitsWords words replies.Words = ¬ IsRows words
+FitsWords words reply = IsRows words
 
 abbrev pub number_of : HeaderFault → ℕ
 number_of faults.Short = 1

@@ -28,7 +28,7 @@ ghost use Rattle.spe_model.specs.Header.{header_of, IsSized};
 ghost use Rattle.spe_model.specs.Faults.{HasCause as HasDiskCause};
 ghost use Rattle.spe_model.specs.declared.file.FileNo.TheVariants.{Database};
 ghost use Rattle.spe_serve.specs.Small.{small_database};
-ghost use Rattle.spe_serve.specs.Reply.{reply_of_rows, reply_of_database, reply_of_file};
+ghost use Rattle.spe_serve.specs.Reply.{reply_of_rows, reply_of_database, reply_of_file, IsAboutRows};
 ghost use Rattle.spe_serve.specs.Stop.{WhereTold, HasCause};
 ghost use Rattle.spe_serve.specs.Ending.{IsOutcome, outcome_of};
 
@@ -48,7 +48,8 @@ fn read_header<D: Disk>(disk: &mut D) -> Result<Result<Header, HeaderFault>, Fai
 }
 
 fn reply_of(found: Option<Rows>) -> Reply
-    ensures { result ≡ reply_of_rows found }
+    ensures rows { result ≡ reply_of_rows found }
+    ensures about { IsAboutRows result }
 {
     match found {
         Some(rows) => Reply::Rows(rows),
@@ -66,6 +67,7 @@ fn table_reply<D: Disk>(
     requires attached { D.attached disk.old ≡ true }
     requires sized { IsSized header.now }
     ensures reply { IfOk result (λ reply. WhereTold (D.told disk.old) (λ content. reply_of_database name.now (small_database content header.now (bytes_of content Database)) ≡ reply)) }
+    ensures about { IfOk result IsAboutRows }
     ensures same { D.told disk.new ≡ D.told disk.old }
     ensures attached { D.attached disk.new ≡ true }
     ensures operations { D.op_faults disk.new ≡ D.op_faults disk.old }
@@ -82,6 +84,7 @@ fn table_reply<D: Disk>(
 fn rows_reply<D: Disk>(alloc: Global, disk: &mut D, name: &[u8]) -> Result<Reply, Stop>
     requires { D.attached disk.old ≡ true }
     ensures reply { IfOk result (λ reply. WhereTold (D.told disk.old) (λ content. reply_of_file content name.now (Some (bytes_of content Database)) ≡ reply)) }
+    ensures about { IfOk result IsAboutRows }
     ensures same { D.told disk.new ≡ D.told disk.old }
     ensures attached { D.attached disk.new ≡ true }
     ensures operations { D.op_faults disk.new ≡ D.op_faults disk.old }

@@ -85,5 +85,6 @@ pub fn expect<R: Threads + Wait + Sync + Abort>(
     assert_eq!(rt; ended.sink.as_slice(), text.as_bytes());
     assert_eq!(rt; ended.status, status);
     assert_eq!(rt; ended.commits, 0);
+    assert_eq!(rt; ended.disk.ops(), 0);
     Ok(())
 }

@@ -6,7 +6,7 @@ use Rattle.spe_serve.proofs.outcome.table_reply.Goals as goal
 
 pub returns-in-Ok-clause-reply : goal.returns-in-Ok-clause-reply
 returns-in-Ok-clause-reply g c =
-    rw c.reply_of.ensures
+    rw c.reply_of.ensures.rows
     (reply_found _ c.args.name.now (λ content. small_database content c.args.header.now (bytes_of content Database)) c.in-Ok.found c.in-Ok.ensures.rows)
 
 pub returns-in-Err-NotBuilt-clause-reply : goal.returns-in-Err-NotBuilt-clause-reply
