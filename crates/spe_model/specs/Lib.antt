@@ -13,3 +13,7 @@ pub mod Serial
 pub mod Record
 pub mod Journal
 pub mod Recovery
+pub mod Paging
+pub mod Chain
+pub mod Tree
+pub mod Range

@@ -1,6 +1,6 @@
 -- B-tree pages ("B-tree Pages" in SQLite's Database File Format): what a page holds, and the faults that it may have.
 -- `page` is its usable bytes, and its header begins at `at`.
-use Rattle.std.specs.Prelude.{◌≡◌, ℕ, ◌+◌, ◌-◌, ◌*◌, ℤ, Bool, true, not, ◌&&◌, List, [], ◌∷◌, length, drop, max, min, Option, Some, None, Result, Ok, Err, nat_lt, nat_le, int_lt, slice_index, slice_range, if◌then◌else◌}
+use Rattle.std.specs.Prelude.{ℕ, ◌+◌, ◌-◌, ◌*◌, ℤ, Bool, true, not, ◌&&◌, List, [], ◌∷◌, length, drop, max, min, Option, Some, None, Result, Ok, Err, nat_lt, nat_le, int_lt, slice_index, slice_range, if◌then◌else◌}
 use Rattle.std.specs.List.{list_all, list_any}
 use Rattle.spe_model.specs.declared.page.Kind.{Kind}
 use Rattle.spe_model.specs.declared.page.Cell.{Cell}

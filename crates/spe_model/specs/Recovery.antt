@@ -1,7 +1,7 @@
 -- The pages that a database has once its hot journals are rolled back together. Nothing is written here.
-use Rattle.std.specs.Prelude.{ℕ, ◌+◌, ◌-◌, ◌*◌, ◌^◌, Bool, not, ◌&&◌, ◌||◌, ◌==◌, nat_lt, nat_le, min, List, [], ◌∷◌, ◌++◌, length, take, drop, map, filter, Option, Some, None, Result, Ok, Err, is_some, if◌then◌else◌}
+use Rattle.std.specs.Prelude.{ℕ, ◌-◌, ◌*◌, ◌^◌, Bool, not, ◌&&◌, ◌||◌, ◌==◌, nat_lt, nat_le, min, List, [], ◌∷◌, ◌++◌, length, take, drop, map, filter, Option, Some, None, Result, Ok, Err, is_some, if◌then◌else◌}
 use Rattle.std.specs.List.{find, list_any, list_all, flat_map}
-use Rattle.std.specs.Option.{option_map, option_map_or}
+use Rattle.std.specs.Option.{option_map_or}
 use Rattle.spe_model.specs.declared.header.Header.{Header}
 use Rattle.spe_model.specs.declared.header.HeaderFault.{HeaderFault}
 use Rattle.spe_model.specs.declared.header.HeaderFault.TheVariants.{Short, NotADatabase, Wal, BadPageSize}
@@ -10,7 +10,7 @@ use Rattle.spe_model.specs.declared.recovery.RecoverFault.TheVariants as refusal
 use Rattle.spe_model.specs.declared.file.FileNo.TheVariants.{Database, Journal}
 use Rattle.spe_model.specs.Content.{Content, bytes_of}
 use Rattle.spe_model.specs.Header.{has_fault, header_of, page_size_at, page_count_of}
-use Rattle.spe_model.specs.Journal.{Saved, has_head, head_page_size, is_hot, hot_records, numbers_from}
+use Rattle.spe_model.specs.Journal.{Saved, has_head, head_page_size, hot_records, numbers_from}
 
 -- the journals
 abbrev pub ids : List ℕ

@@ -1,0 +1,168 @@
+-- What a search answers, from what one page says.
+use Rattle.std.proofs.Common.{◌≡◌, ◌≢◌, ℕ, zero, suc, ℤ, ◌<◌, ◌-◌, ◌∙◌, List, [], ◌∷◌, Option, None, Result, Ok, Err, refl, sym, subst, arith, inl, inr}
+use Rattle.std.specs.List.{Contains}
+use Rattle.std.proofs.lemmas.Bool.{cases_eq}
+use Rattle.std.proofs.lemmas.Bool.Decides.{leb_tells}
+use Rattle.std.proofs.lemmas.List.Elements.{Contains-append_left, Contains-append_right}
+use Rattle.spe_model.specs.declared.page.Kind.TheVariants.{TableLeaf, TableInterior}
+use Rattle.spe_model.specs.declared.page.Cell.{Cell}
+use Rattle.spe_model.specs.Paging.{Paging}
+use Rattle.spe_model.specs.Chain.{IsLink}
+use Rattle.spe_model.specs.Tree.{rank, rest_of, fan, IsTree, tree_pages, child_for, node_cells, node_right}
+use Rattle.spe_space.specs.Calls.{Reads, sight}
+use Rattle.spe_space.specs.Found.{Answers, AddsOfChain}
+use Rattle.spe_space.specs.declared.pages.Pages.{Ghosts}
+use Rattle.spe_space.specs.declared.fault.TreeFault.{TreeFault}
+use Rattle.spe_space.specs.declared.fault.TreeFault.TheVariants.{Space, Corrupt}
+use Rattle.spe_search.specs.declared.page.Found.{Found}
+use Rattle.spe_search.specs.declared.page.Step.{Step}
+use Rattle.spe_search.specs.declared.page.Step.TheVariants.{Missing, Row, Child}
+use Rattle.spe_search.specs.Step.{Leads}
+use Rattle.spe_search.specs.Found.{GivesStep, GivesWhole, FindsBelow, NamesDamage, HasCause, AddsOfTree, IsStep, ShowsChild}
+use Rattle.spe_search.proofs.TreeLemmas.{rows_sorted, under_sorted, row_missing, row_found, tree_step, some_tree}
+
+-- a rowid that is handed on is the same
+pub step_same : {P : Type 0} (g : Ghosts P) (early late : P) (page : ℕ) (step : Result Step TreeFault) (a b : ℤ) → a ≡ b → GivesStep g early late page a step → GivesStep g early late page b step
+step_same {P} g early late page step a b same given = let Q : ℤ → Type 0 = λ z. GivesStep g early late page z step in subst Q same given
+
+pub finds_same : {P : Type 0} (g : Ghosts P) (early late : P) (page levels : ℕ) (result : Result (Option (List ℕ)) TreeFault) (a b : ℤ) → a ≡ b
+    → FindsBelow g early late page a levels result → FindsBelow g early late page b levels result
+finds_same {P} g early late page levels result a b same found = let Q : ℤ → Type 0 = λ z. FindsBelow g early late page z levels result in subst Q same found
+
+leaf_leads : (usable : ℕ) (pages : Paging) (low high page : ℕ) (rowid : ℤ) (step : Step) → IsStep usable pages page rowid (Ok step) → IsTree usable pages zero low high page
+    → Leads (record { kind = TableLeaf; cells = node_cells usable pages page; right = node_right usable pages page }) rowid step
+leaf_leads usable pages low high page rowid step given tree = given.1 _ tree.0 (rows_sorted usable pages low high (node_cells usable pages page) tree.1)
+
+interior_leads : (usable : ℕ) (pages : Paging) (height low high page : ℕ) (rowid : ℤ) (step : Step) → IsStep usable pages page rowid (Ok step) → IsTree usable pages (suc height) low high page
+    → Leads (record { kind = TableInterior; cells = node_cells usable pages page; right = node_right usable pages page }) rowid step
+interior_leads usable pages height low high page rowid step given tree =
+    given.1 _ tree.0 (under_sorted (IsTree usable pages height) low high (node_cells usable pages page) (node_right usable pages page) tree.1)
+
+no_leaf : TableInterior ≡ TableLeaf → ⊥
+no_leaf e = cc
+
+no_interior : TableLeaf ≡ TableInterior → ⊥
+no_interior e = cc
+
+pub missing_finds : {P : Type 0} (g : Ghosts P) (early late : P) (page : ℕ) (rowid : ℤ) (levels : ℕ) → GivesStep g early late page rowid (Ok Missing)
+    → FindsBelow g early late page rowid levels (Ok None)
+missing_finds g early late page rowid levels given pages agrees zero low high under from to tree =
+    let lead = leaf_leads (g.used early) (sight g early pages) low high page rowid Missing (given pages agrees) tree in
+    sym (row_missing (g.used early) (sight g early pages) rowid (node_cells (g.used early) (sight g early pages) page) lead.1)
+missing_finds g early late page rowid levels given pages agrees (suc height) low high under from to tree =
+    absurd (no_leaf (interior_leads (g.used early) (sight g early pages) height low high page rowid Missing (given pages agrees) tree).0)
+
+pub row_finds : {P : Type 0} (g : Ghosts P) (early mid late : P) (page : ℕ) (rowid : ℤ) (levels : ℕ) (found : Found) (result : Result (Option (List ℕ)) TreeFault)
+    → Reads g early mid → Reads g mid late → GivesStep g early mid page rowid (Ok (Row found)) → GivesWhole g mid late found result → FindsBelow g early late page rowid levels result
+row_finds g early mid late page rowid levels found result first second given whole pages agrees zero low high under from to tree =
+    let lead = leaf_leads (g.used early) (sight g early pages) low high page rowid (Row found) (given pages (second.earlier pages agrees)) tree in
+    let row = row_found (g.used early) (sight g early pages) rowid low high (node_cells (g.used early) (sight g early pages) page) found tree.1 lead.1 in
+    let all = rw (first.used, first.laid) at (whole pages agrees) in
+    let P : Option (List ℕ) → Type 0 = λ r. Answers (λ r. r) r result in
+    subst P (sym row.is) (all row.chain)
+row_finds g early mid late page rowid levels found result first second given whole pages agrees (suc height) low high under from to tree =
+    absurd (no_leaf (interior_leads (g.used early) (sight g early pages) height low high page rowid (Row found) (given pages (second.earlier pages agrees)) tree).0)
+
+pub child_finds : {P : Type 0} (g : Ghosts P) (early mid late : P) (page : ℕ) (rowid : ℤ) (levels child : ℕ) (result : Result (Option (List ℕ)) TreeFault)
+    → Reads g early mid → Reads g mid late → GivesStep g early mid page rowid (Ok (Child child)) → FindsBelow g mid late child rowid (levels - 1) result
+    → FindsBelow g early late page rowid levels result
+child_finds g early mid late page rowid levels child result first second given found pages agrees zero low high under from to tree =
+    absurd (no_interior (leaf_leads (g.used early) (sight g early pages) low high page rowid (Child child) (given pages (second.earlier pages agrees)) tree).0)
+child_finds g early mid late page rowid levels child result first second given found pages agrees (suc height) low high under from to tree =
+    let lead = interior_leads (g.used early) (sight g early pages) height low high page rowid (Child child) (given pages (second.earlier pages agrees)) tree in
+    let next = tree_step rowid (g.used early) (sight g early pages) height low high page tree from to in
+    let all = rw (first.used, first.laid, lead.1) at (found pages agrees) in
+    let P : Option (List ℕ) → Type 0 = λ r. Answers (λ r. r) r result in
+    subst P (sym next.row) (all height next.low next.high (omega (arith, under)) next.from next.to next.tree)
+
+pub below_names : (X : Type 0) (usable : ℕ) (pages : Paging) (page levels child : ℕ) (result : Result X TreeFault)
+    → ShowsChild usable pages page child → HasCause usable pages child levels result → HasCause usable pages page (suc levels) result
+below_names X usable pages page levels child (Ok found) shows cause = tt
+below_names X usable pages page levels child (Err (Space f)) shows cause = tt
+below_names X usable pages page levels child (Err (Corrupt at)) shows (inl faulty) = inl faulty
+below_names X usable pages page levels child (Err (Corrupt at)) shows (inr (inl row)) = inr (inl row)
+below_names X usable pages page levels child (Err (Corrupt at)) shows (inr (inr below)) = inr (inr (child, shows, below))
+
+pub child_names : {P : Type 0} (g : Ghosts P) (early mid late : P) (page : ℕ) (rowid : ℤ) (levels child : ℕ) (result : Result (Option (List ℕ)) TreeFault)
+    → 0 < levels → Reads g early mid → Reads g mid late → GivesStep g early mid page rowid (Ok (Child child)) → NamesDamage g mid late child (levels - 1) result
+    → NamesDamage g early late page levels result
+child_names g early mid late page rowid levels child result more first second given named pages agrees =
+    let step = (given pages (second.earlier pages agrees)).0 in
+    let back : suc (levels - 1) ≡ levels = omega (arith, more) in
+    let P : ℕ → Type 0 = λ n. HasCause (g.used early) (sight g early pages) page n result in
+    let shows : ShowsChild (g.used early) (sight g early pages) page child = record { shown = step.0; is = step.1; has = step.2 } in
+    subst P back (below_names (Option (List ℕ)) (g.used early) (sight g early pages) page (levels - 1) child result shows (rw (first.used, first.laid) at (named pages agrees)))
+
+-- the page itself is the tree's
+root_has : (usable : ℕ) (pages : Paging) (height page : ℕ) → Contains (tree_pages usable pages height page) page
+root_has usable pages zero page = (0, omega arith, refl)
+root_has usable pages (suc height) page = (0, omega arith, refl)
+
+pub adds_page : {P : Type 0} (g : Ghosts P) (early late : P) (page : ℕ) → ((n : ℕ) → n ≢ page → g.seen late n ≡ g.seen early n) → AddsOfTree g early late page
+adds_page g early late page only pages agrees height low high tree n = elim (cases_eq n page) [
+  | inl same ↦ inr (inl (let P : ℕ → Type 0 = Contains (tree_pages (g.used early) (sight g early pages) height page) in subst P (sym same) (root_has (g.used early) (sight g early pages) height page)))
+  | inr other ↦ inl (only n other)
+]
+
+pub adds_row : {P : Type 0} (g : Ghosts P) (early mid late : P) (page : ℕ) (rowid : ℤ) (found : Found) → Reads g early mid → Reads g mid late
+    → ((n : ℕ) → n ≢ page → g.seen mid n ≡ g.seen early n) → GivesStep g early mid page rowid (Ok (Row found)) → AddsOfChain g mid late found.chain found.rest → AddsOfTree g early late page
+adds_row g early mid late page rowid found first second only given adds pages agrees height low high tree n =
+    let step = (given pages (second.earlier pages agrees)).0 in
+    let row = step.2 in
+    let all = rw (first.used, first.laid) at (adds pages agrees n) in
+    elim all [
+      | inl same ↦ (elim (adds_page g early mid page only pages (second.earlier pages agrees) height low high tree n) [
+        | inl before ↦ inl (same ∙ before)
+        | inr has ↦ inr has
+      ])
+      | inr link ↦ inr (inr (record {
+        leaf = page;
+        row = row.0;
+        inside = root_has (g.used early) (sight g early pages) height page;
+        shown = record { shown = step.0; is = step.1; has = row.1 };
+        link = (let A : ℕ → Type 0 = λ r. IsLink (g.used early) (sight g early pages) r found.chain n in
+            let B : ℕ → Type 0 = λ c. IsLink (g.used early) (sight g early pages) (rest_of row.0) c n in
+            subst B row.2.2 (subst A row.2.1 link));
+      }))
+    ]
+
+fan_has : (own : ℕ → List ℕ) (n key : ℕ) (cells : List Cell) (right : ℕ) → Contains (own (child_for key cells right)) n → Contains (fan own cells right) n
+fan_has own n key [] right h = h
+fan_has own n key (c ∷ cs) right h = elim (leb_tells key (rank c.key)) [
+  | inl hit ↦ Contains-append_left (own c.left) (fan own cs right) n (rw hit.0 at h)
+  | inr miss ↦ Contains-append_right (own c.left) (fan own cs right) n (fan_has own n key cs right (rw miss.0 at h))
+]
+
+tree_has : (usable : ℕ) (pages : Paging) (height page key n : ℕ) → Contains (tree_pages usable pages height (child_for key (node_cells usable pages page) (node_right usable pages page))) n
+    → Contains (tree_pages usable pages (suc height) page) n
+tree_has usable pages height page key n h =
+    Contains-append_right (page ∷ []) (fan (tree_pages usable pages height) (node_cells usable pages page) (node_right usable pages page)) n
+    (fan_has (tree_pages usable pages height) n key (node_cells usable pages page) (node_right usable pages page) h)
+
+pub adds_below : {P : Type 0} (g : Ghosts P) (early mid late : P) (page : ℕ) (rowid : ℤ) (child : ℕ) → Reads g early mid → Reads g mid late
+    → ((n : ℕ) → n ≢ page → g.seen mid n ≡ g.seen early n) → GivesStep g early mid page rowid (Ok (Child child)) → AddsOfTree g mid late child → AddsOfTree g early late page
+adds_below g early mid late page rowid child first second only given adds pages agrees zero low high tree n =
+    absurd (no_interior (leaf_leads (g.used early) (sight g early pages) low high page rowid (Child child) (given pages (second.earlier pages agrees)) tree).0)
+adds_below g early mid late page rowid child first second only given adds pages agrees (suc height) low high tree n =
+    let usable = g.used early in
+    let view = sight g early pages in
+    let lead = interior_leads usable view height low high page rowid (Child child) (given pages (second.earlier pages agrees)) tree in
+    let below = some_tree (rank rowid) (IsTree usable view height) low high (node_cells usable view page) (node_right usable view page) tree.1 in
+    let all = rw (first.used, first.laid, lead.1) at (adds pages agrees) in
+    elim (all height below.low below.high below.tree n) [
+      | inl same ↦ (elim (adds_page g early mid page only pages (second.earlier pages agrees) (suc height) low high tree n) [
+        | inl before ↦ inl (same ∙ before)
+        | inr has ↦ inr has
+      ])
+      | inr (inl has) ↦ inr (inl (tree_has usable view height page (rank rowid) n has))
+      | inr (inr over) ↦ inr (inr (record { leaf = over.leaf; row = over.row; inside = tree_has usable view height page (rank rowid) over.leaf over.inside; shown = over.shown; link = over.link }))
+    ]
+
+pub reads_twice : {P : Type 0} (g : Ghosts P) (a b c : P) → Reads g a b → Reads g b c → Reads g a c
+reads_twice g a b c first second = record {
+  earlier = λ pages agrees. first.earlier pages (second.earlier pages agrees);
+  laid = second.laid ∙ first.laid;
+  size = second.size ∙ first.size;
+  used = second.used ∙ first.used;
+  count = second.count ∙ first.count;
+}

@@ -1,0 +1,19 @@
+use Rattle.std.proofs.Common.{◌≡◌, length}
+use Rattle.spe_space.specs.Calls.{Reads}
+use Rattle.spe_search.specs.Range.{HasWalked}
+use Rattle.spe_search.proofs.rows.+walk.Given as goal
+
+abbrev pub decreases-walk : goal.decreases-walk
+decreases-walk g l = l.levels
+
+abbrev pub invariant-loop-left : goal.invariant-loop-left
+invariant-loop-left g l = record {
+  kept : Reads g.S.Pages l.fn.space l.space;
+  refusal : g.S.Pages.refusal l.space ≡ g.S.Pages.refusal l.fn.space;
+  buf : length l.buf ≡ g.S.Pages.size l.fn.space;
+  spare : length l.spare ≡ g.S.Pages.size l.fn.space;
+  walked : HasWalked g.S.Pages l.fn.space l.space l.page l.low l.high l.levels l.fn.out l.out l.left;
+}
+
+abbrev pub decreases-loop-left : goal.decreases-loop-left
+decreases-loop-left g l = length l.left

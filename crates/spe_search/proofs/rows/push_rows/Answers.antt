@@ -1,0 +1,58 @@
+use Rattle.std.proofs.Common.{◌≡◌, ◌&&◌, ◌∙◌, leb, sym, ap, arith, inl, refl}
+use Rattle.spe_model.specs.Tree.{rank}
+use Rattle.spe_format.specs.View.{cell_seen}
+use Rattle.spe_search.proofs.PlaceLemmas.{hole_there}
+use Rattle.spe_search.proofs.RangeLemmas.{pushed_skip, pushed_more, pushed_fault, damage_row, adds_row_more}
+use Rattle.spe_search.proofs.FoundLemmas.{reads_twice}
+use Rattle.spe_search.proofs.rows.push_rows.Goals.{then-is_within+in-Ok, else-is_within}
+use Rattle.spe_search.proofs.rows.push_rows.Goals as goal
+
+pub returns-in_default-clause-rows : goal.returns-in_default-clause-rows
+returns-in_default-clause-rows g c = λ pages agrees cells e a b rows.
+    hole_there c.args.view.now.cells c.loop-index.index c.in_default.ensures (omega (arith, c.loop-index-test.true, c.count-count.ensures)) cells e
+
+pub returns-in_default-clause-damage : goal.returns-in_default-clause-damage
+returns-in_default-clause-damage g c = λ pages agrees.
+    inl (refl, hole_there c.args.view.now.cells c.loop-index.index c.in_default.ensures (omega (arith, c.loop-index-test.true, c.count-count.ensures)))
+
+pub returns-in-Err-clause-rows : goal.returns-in-Err-clause-rows
+returns-in-Err-clause-rows g c =
+    pushed_fault (Unit {0}) (Unit {0}) g.S.Pages c.args.space.now c.loop-index.space c.push_row.new.space c.args.view.now.cells c.args.low c.args.high c.loop-index.index (cell_seen c.in-Some.parts) c.in-Err.fault
+    c.args.out.now c.loop-index.out c.push_row.new.out c.push_row.new.out c.loop-index.invariant.kept c.in-Some.ensures (omega (arith, c.loop-index-test.true, c.count-count.ensures)) c.in-Err.ensures.rows
+
+pub returns-in-Err-clause-damage : goal.returns-in-Err-clause-damage
+returns-in-Err-clause-damage g c =
+    damage_row (Unit {0}) (Unit {0}) g.S.Pages c.args.space.now c.loop-index.space c.push_row.new.space c.args.page c.args.view.now.cells c.loop-index.index (cell_seen c.in-Some.parts) c.in-Err.fault
+    c.loop-index.invariant.kept c.in-Some.ensures c.in-Err.ensures.damage
+
+pub returns-in-Err-clause-adds : goal.returns-in-Err-clause-adds
+returns-in-Err-clause-adds g c =
+    adds_row_more g.S.Pages c.args.space.now c.loop-index.space c.push_row.new.space c.args.view.now.cells c.loop-index.index (cell_seen c.in-Some.parts)
+    c.loop-index.invariant.kept c.in-Err.ensures.kept c.in-Some.ensures c.loop-index.invariant.adds c.in-Err.ensures.adds
+
+pub loop-index-preserved : goal.loop-index-preserved
+loop-index-preserved g c =
+    let cell = cell_seen c.in-Some.parts in
+    let same : c.is_within.result ≡ (leb c.args.low (rank c.in-Some.parts.key) && leb (rank c.in-Some.parts.key) c.args.high) = c.is_within.ensures ∙ ap (λ k. leb c.args.low k && leb k c.args.high) c.key_of.ensures in
+    elim c.if-is_within.branch [
+      | then-is_within+in-Ok w ↦ rw (w.space-is, w.buf-is, w.out-is) (record {
+        within = omega (arith, c.loop-index-test.true);
+        kept = reads_twice g.S.Pages c.args.space.now c.loop-index.space w.push_row.new.space c.loop-index.invariant.kept w.in-Ok.ensures.kept;
+        refusal = w.in-Ok.ensures.refusal ∙ c.loop-index.invariant.refusal;
+        buf = omega (arith, w.push_row.auto.buf, c.loop-index.invariant.buf);
+        pushed = pushed_more (Unit {0}) tt g.S.Pages c.args.space.now c.loop-index.space w.push_row.new.space c.args.view.now.cells c.args.low c.args.high c.loop-index.index cell
+            c.args.out.now c.loop-index.out w.push_row.new.out c.loop-index.invariant.kept w.in-Ok.ensures.kept c.loop-index.invariant.pushed c.in-Some.ensures
+            (omega (arith, c.loop-index-test.true, c.count-count.ensures)) (sym same ∙ w.if-is_within.true) w.in-Ok.ensures.rows;
+        adds = adds_row_more g.S.Pages c.args.space.now c.loop-index.space w.push_row.new.space c.args.view.now.cells c.loop-index.index cell
+            c.loop-index.invariant.kept w.in-Ok.ensures.kept c.in-Some.ensures c.loop-index.invariant.adds w.in-Ok.ensures.adds;
+      })
+      | else-is_within w ↦ rw (w.space-is, w.buf-is, w.out-is) (record {
+        within = omega (arith, c.loop-index-test.true);
+        kept = c.loop-index.invariant.kept;
+        refusal = c.loop-index.invariant.refusal;
+        buf = c.loop-index.invariant.buf;
+        pushed = pushed_skip g.S.Pages c.args.space.now c.loop-index.space c.args.view.now.cells c.args.low c.args.high c.loop-index.index cell
+            c.args.out.now c.loop-index.out c.loop-index.invariant.pushed c.in-Some.ensures (omega (arith, c.loop-index-test.true, c.count-count.ensures)) (sym same ∙ w.if-is_within.false);
+        adds = c.loop-index.invariant.adds;
+      })
+    ]

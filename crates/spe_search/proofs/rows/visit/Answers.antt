@@ -1,0 +1,21 @@
+use Rattle.spe_space.specs.Calls.{sight}
+use Rattle.spe_search.proofs.StepLemmas.{legal_same, shown_same, visit_of, visit_cause}
+use Rattle.spe_search.proofs.rows.visit.Goals as goal
+
+pub returns-clause-visits : goal.returns-clause-visits
+returns-clause-visits g c = λ pages agrees.
+    let space = c.args.space.now in
+    let bytes = c.in_ok-get.ensures.ok pages (c.look.ensures.kept.earlier pages agrees) in
+    visit_of (g.S.Pages.used space) (sight g.S.Pages space pages) c.args.page c.args.low c.args.high c.in-Ok.view c.args.out.now c.look.new.out c.look.result
+    (legal_same _ _ _ _ _ _ c.in-Ok.view c.usable-usable.ensures.value bytes c.header_of.ensures.value c.in-Ok.ensures.legal)
+    (λ kind cells e a b. rw (c.in_ok-get.ensures.used, c.in_ok-get.ensures.laid) at (c.look.ensures.leaf kind pages agrees cells e a b))
+    c.look.ensures.interior
+
+pub returns-clause-damage : goal.returns-clause-damage
+returns-clause-damage g c = λ pages agrees.
+    let space = c.args.space.now in
+    let bytes = c.in_ok-get.ensures.ok pages (c.look.ensures.kept.earlier pages agrees) in
+    visit_cause (g.S.Pages.used space) (sight g.S.Pages space pages) c.args.page c.in-Ok.view c.look.result
+    (legal_same _ _ _ _ _ _ c.in-Ok.view c.usable-usable.ensures.value bytes c.header_of.ensures.value c.in-Ok.ensures.legal)
+    (shown_same _ _ _ _ _ _ c.in-Ok.view c.usable-usable.ensures.value bytes c.header_of.ensures.value c.in-Ok.ensures.shown)
+    (rw (c.in_ok-get.ensures.used, c.in_ok-get.ensures.laid) at (c.look.ensures.damage pages agrees))

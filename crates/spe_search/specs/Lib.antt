@@ -1,0 +1,4 @@
+pub mod Step
+pub mod Found
+pub mod Pairs
+pub mod Range

@@ -1,0 +1,15 @@
+//! Looking up rows in the trees of tables.
+//!
+//! A search gets one page a level and halves its cells, of which it reads only those that it looks
+//! at. Its answer holds for all pages that agree with those that were given; Corrupt names a page
+//! with its cause.
+#![tactic(auto)]
+
+mod page;
+mod pairs;
+mod rows;
+mod search;
+
+pub use pairs::{Pair, Pairs};
+pub use rows::range;
+pub use search::find;

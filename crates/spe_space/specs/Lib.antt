@@ -1,0 +1,5 @@
+pub mod Outcome
+pub mod Calls
+pub mod Slots
+pub mod View
+pub mod Found
