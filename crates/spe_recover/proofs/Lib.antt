@@ -1,0 +1,16 @@
+mod FrontLemmas
+mod HeadLemmas
+mod SeenLemmas
+mod ScanLemmas
+mod HeldLemmas
+mod ClashLemmas
+mod ImageLemmas
+mod SurveyLemmas
+mod KnownLemmas
+mod RestoreLemmas
+mod TurnLemmas
+mod ClearLemmas
+mod WrittenLemmas
+mod RolledLemmas
+mod RecoveredLemmas
+mod EmptiedLemmas

@@ -1,0 +1,104 @@
+-- What recovery answers.
+use Rattle.std.proofs.Common.{◌≡◌, ℕ, zero, suc, ◌+◌, List, [], ◌∷◌, length, map, take, refl, sym, ap, ◌∙◌, Bool, false, Option, Some, None, Ok}
+use Rattle.spe_model.specs.declared.header.Header.{Header}
+use Rattle.spe_model.specs.declared.header.HeaderFault.{HeaderFault}
+use Rattle.spe_model.specs.declared.recovery.RecoverFault.{RecoverFault}
+use Rattle.spe_model.specs.declared.recovery.RecoverFault.TheVariants as refusals
+use Rattle.spe_model.specs.Content.{Content}
+use Rattle.spe_model.specs.Header.{header_of, fields, unless, faults, has_fault}
+use Rattle.spe_model.specs.Journal.{numbers_from}
+use Rattle.spe_model.specs.Recovery.{image_of, recovered, file_page_size}
+use Rattle.spe_model.specs.Trace.{History, present}
+use Rattle.std.specs.List.{find}
+use Rattle.spe_recover.specs.declared.known.Known.{Known}
+use Rattle.spe_recover.specs.declared.want.Want.{Want}
+use Rattle.spe_recover.specs.Known.{IsKnown, IsRefused}
+use Rattle.spe_recover.specs.Survey.{images_to}
+use Rattle.spe_recover.specs.Told.{WhereTold}
+use Rattle.spe_recover.specs.Written.{IsReady}
+use Rattle.spe_recover.specs.Recovered.{HasPages, IsRefusal, IsUnwanted, is_wanted, recovered_header, node_of}
+use Rattle.spe_recover.proofs.SurveyLemmas.{some_of, is_read}
+
+numbers-length : (n count : ℕ) → length (numbers_from n count) ≡ count
+numbers-length n zero = refl
+numbers-length n (suc count) = ap suc (numbers-length (n + 1) count)
+
+length-images : (f : ℕ → List ℕ) (xs : List ℕ) → length (map f xs) ≡ length xs
+length-images f [] = refl
+length-images f (x ∷ xs) = ap suc (length-images f xs)
+
+of_ok : (found : Option HeaderFault) (x h : Header) → unless found x ≡ Ok h → x ≡ h
+of_ok None x h e = cc
+of_ok (Some f) x h e = absurd cc
+
+header_is : (content : Content) (h : Header) → header_of (take 100 (image_of content 1)) ≡ Ok h → recovered_header content ≡ h
+unfolding recovered_header
+header_is content h e = of_ok (find (has_fault (take 100 (image_of content 1))) faults) (fields (take 100 (image_of content 1))) h e
+
+pages_known : (content : Content) (known : Known) → IsKnown content known (recovered content) → HasPages content known.survey.pages
+pages_known content known k = record {
+  pages = images_to content known.survey.pages;
+  recovers = k.survey.pages;
+  counted = length-images (image_of content) (numbers_from 1 known.survey.pages) ∙ numbers-length 1 known.survey.pages;
+}
+
+pub found_pages : (told : Option History) (known : Known) (count : ℕ) → count ≡ known.survey.pages → WhereTold told (λ content. IsKnown content known (recovered content))
+    → WhereTold told (λ content. HasPages content count)
+found_pages None known count is k = tt
+found_pages (Some h) known count is k = rw is (pages_known (present h) known k)
+
+pub found_size : (told : Option History) (known : Known) → WhereTold told (λ content. IsKnown content known (recovered content))
+    → WhereTold told (λ content. known.survey.page_size ≡ file_page_size content)
+found_size None known k = tt
+found_size (Some h) known k = k.survey.paged
+
+pub found_header : (told : Option History) (known : Known) → WhereTold told (λ content. IsKnown content known (recovered content))
+    → WhereTold told (λ content. known.survey.header ≡ recovered_header content)
+found_header None known k = tt
+found_header (Some h) known k = sym (header_is (present h) known.survey.header k.survey.header)
+
+pub found_reserved : (told : Option History) (header : Header) (reserved : ℕ) → reserved ≡ header.reserved → WhereTold told (λ content. header ≡ recovered_header content)
+    → WhereTold told (λ content. reserved ≡ (recovered_header content).reserved)
+found_reserved None header reserved is same = tt
+found_reserved (Some h) header reserved is same = is ∙ ap (λ (x : Header). x.reserved) same
+
+pub found_node : (told : Option History) (header : Header) (node : Option ℕ) → node ≡ node_of header → WhereTold told (λ content. header ≡ recovered_header content)
+    → WhereTold told (λ content. node ≡ node_of (recovered_header content))
+found_node None header node is same = tt
+found_node (Some h) header node is same = is ∙ ap node_of same
+
+pub found_wanted : (told : Option History) (header : Header) (want : Want) (wanted : Bool) → is_wanted want header ≡ wanted → WhereTold told (λ content. header ≡ recovered_header content)
+    → WhereTold told (λ content. is_wanted want (recovered_header content) ≡ wanted)
+found_wanted None header want wanted is same = tt
+found_wanted (Some h) header want wanted is same = ap (is_wanted want) (sym same) ∙ is
+
+pub is_unwanted : (told : Option History) (known : Known) (want : Want) → is_wanted want known.survey.header ≡ false
+    → WhereTold told (λ content. IsKnown content known (recovered content)) → WhereTold told (IsUnwanted want)
+is_unwanted None known want not_wanted k = tt
+is_unwanted (Some h) known want not_wanted k = record {
+  count = known.survey.pages;
+  pages = pages_known (present h) known k;
+  unwanted = ap (is_wanted want) (header_is (present h) known.survey.header k.survey.header) ∙ not_wanted;
+}
+
+refusal_of : (want : Want) (fault : RecoverFault) (content : Content) → IsRefused fault (recovered content) → IsRefusal want fault content
+refusal_of want refusals.Disk content is = tt
+refusal_of want (refusals.Header f) content is = is
+refusal_of want (refusals.JournalPage id size) content is = is
+refusal_of want (refusals.Overlap page a b) content is = is
+refusal_of want (refusals.TooLarge pages) content is = is
+refusal_of want (refusals.ShortFile pages bytes) content is = is
+refusal_of want refusals.NotPrepared content is = absurd is
+refusal_of want refusals.Memory content is = tt
+
+pub is_refusal : (told : Option History) (want : Want) (fault : RecoverFault) → WhereTold told (λ content. IsRefused fault (recovered content)) → WhereTold told (IsRefusal want fault)
+is_refusal None want fault is = tt
+is_refusal (Some h) want fault is = refusal_of want fault (present h) is
+
+pub is_ready : (told : Option History) (known : Known) → WhereTold told (λ content. IsKnown content known (recovered content)) → WhereTold told (IsReady known.survey known.seen.holders)
+is_ready None known k = tt
+is_ready (Some h) known k = record {
+  paged = k.survey.paged;
+  size = k.survey.size;
+  held = some_of (present h) known.seen (is_read (present h) known.survey.page_size known.seen k.survey.paged k.seen);
+}

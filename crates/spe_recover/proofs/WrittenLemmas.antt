@@ -1,0 +1,109 @@
+-- Writing all back.
+use Rattle.std.proofs.Common.{◌≡◌, ℕ, zero, suc, ◌+◌, ◌-◌, ◌*◌, List, [], ◌∷◌, ◌++◌, length, map, refl, arith, sym, ap, subst, ◌∙◌, Bool, true, false, cond, Option, Some, None, length-append}
+use Rattle.std.specs.Prelude.{◌==◌, ◌&&◌, ◌||◌, not, nat_le, is_some}
+use Rattle.std.specs.List.{list_any}
+use Rattle.std.specs.Ordering.{nat_cmp}
+use Rattle.std.specs.BTreeMap.{get}
+use Rattle.spe_model.specs.declared.file.FileNo.TheVariants.{Database}
+use Rattle.spe_model.specs.Content.{Content, bytes_of}
+use Rattle.spe_model.specs.Journal.{Saved}
+use Rattle.spe_model.specs.Recovery.{is_of, all_hot, file_page_size, journal_of}
+use Rattle.spe_model.specs.Trace.{Operation, History, present}
+use Rattle.spe_disk.specs.Told.{Adds}
+use Rattle.spe_recover.specs.declared.survey.Survey.{Survey}
+use Rattle.spe_recover.specs.Restored.{Holders, Restored, Stays, is_due}
+use Rattle.spe_recover.specs.Rule.{any_length, cuts_from, file_cut, firsts, restores, rule_of, without, write_of, Does}
+use Rattle.spe_recover.specs.Told.{WhereTold}
+use Rattle.spe_recover.specs.Written.{IsReady, Makes, all_of}
+use Rattle.spe_recover.proofs.ClearLemmas.{cuts_from-next, cuts_from-none, cut_same}
+use Rattle.spe_recover.proofs.HeldLemmas.{find_any}
+use Rattle.spe_recover.proofs.RestoreLemmas.{Adds-nothing, Adds-append}
+use Rattle.spe_recover.proofs.TurnLemmas.{hot_from}
+
+-- only the pages that are saved count
+firsts-among : (f g : ℕ → Bool) (saved : List Saved) → ((p : ℕ) → list_any (is_of p) saved ≡ true → f p ≡ g p) → firsts f saved ≡ firsts g saved
+firsts-among f g [] same = refl
+firsts-among f g (s ∷ ss) same =
+    let later : (p : ℕ) → list_any (is_of p) ss ≡ true → list_any (is_of p) (s ∷ ss) ≡ true = λ p among. or_more (s.page == p) (list_any (is_of p) ss) among in
+    let first : list_any (is_of s.page) (s ∷ ss) ≡ true = grind arith in
+    rw (same s.page first)
+    (ap (λ (more : List Saved). cond (g s.page) (s ∷ more) (firsts f ss))
+    (firsts-among (without f s.page) (without g s.page) ss (λ p among. ap (λ (b : Bool). b && not (s.page == p)) (same p (later p among))))
+    ∙ ap (λ (more : List Saved). cond (g s.page) (s ∷ firsts (without g s.page) ss) more) (firsts-among f g ss (λ p among. same p (later p among))))
+  where
+    or_more : (a b : Bool) → b ≡ true → (a || b) ≡ true
+    or_more true b is = refl
+    or_more false b is = is
+
+cuts_same : (old now : Content) (id count : ℕ) → ((i : ℕ) → journal_of now i ≡ journal_of old i) → cuts_from now id count ≡ cuts_from old id count
+cuts_same old now id zero same = cuts_from-none now id 0 refl ∙ sym (cuts_from-none old id 0 refl)
+cuts_same old now id (suc n) same =
+    let back : suc n - 1 ≡ n = omega arith in
+    cuts_from-next now id (suc n) (omega arith)
+    ∙ ap (λ (m : ℕ). cuts_from now id 1 ++ cuts_from now (id + 1) m) back
+    ∙ ap (λ (ops : List Operation). ops ++ cuts_from now (id + 1) n) (cut_same old now id (same id))
+    ∙ ap (λ (ops : List Operation). cuts_from old id 1 ++ ops) (cuts_same old now (id + 1) n same)
+    ∙ ap (λ (m : ℕ). cuts_from old id 1 ++ cuts_from old (id + 1) m) (sym back)
+    ∙ sym (cuts_from-next old id (suc n) (omega arith))
+
+due_restores : (survey : Survey) (holders : Holders) (content : Content) → IsReady survey holders content
+    → restores survey.page_size (is_due holders survey.pages) (hot_from content survey.page_size 0 16)
+    ≡ restores (file_page_size content) (λ p. nat_le p survey.pages) (all_hot content)
+due_restores survey holders content ready =
+    ap (λ (n : ℕ). restores n (is_due holders survey.pages) (hot_from content n 0 16)) ready.paged
+    ∙ ap (map (write_of (file_page_size content)))
+    (firsts-among (is_due holders survey.pages) (λ p. nat_le p survey.pages) (all_hot content)
+    (λ p among.
+    let held : is_some (get nat_cmp holders p) ≡ true = ready.held p ∙ find_any p (all_hot content) ∙ among in
+    rw held (and_true (nat_le p survey.pages))))
+  where
+    and_true : (b : Bool) → (b && true) ≡ b
+    and_true true = refl
+    and_true false = refl
+
+pub all_made : (told first second new : Option History) (survey : Survey) (before after : Holders) (restored cut cleared end : ℕ)
+    → WhereTold told (IsReady survey before)
+    → WhereTold told (λ content. Restored survey.page_size survey.pages (hot_from content survey.page_size 0 16) told first before after restored)
+    → Stays told first → Does first second (λ content. file_cut survey.size end) cut → end ≡ survey.pages * survey.page_size → Stays first second
+    → Does second new (λ content. cuts_from content 0 16) cleared
+    → Makes told new (λ content. all_of content survey.pages) (restored + cut + cleared)
+all_made None first second new survey before after restored cut cleared end ready done stays cutting ends still clearing = tt
+all_made (Some h) None second new survey before after restored cut cleared end ready done stays cutting ends still clearing = absurd stays
+all_made (Some h) (Some k) None new survey before after restored cut cleared end ready done stays cutting ends still clearing = absurd still
+all_made (Some h) (Some k) (Some l) new survey before after restored cut cleared end ready done stays cutting ends still clearing =
+    let content = present h in
+    let writes : restores survey.page_size (is_due before survey.pages) (hot_from content survey.page_size 0 16)
+    ≡ restores (file_page_size content) (λ p. nat_le p survey.pages) (all_hot content) = due_restores survey before content ready in
+    let end_is : end ≡ survey.pages * file_page_size content = ends ∙ ap (λ (n : ℕ). survey.pages * n) ready.paged in
+    let file : file_cut survey.size end ≡ file_cut (length (bytes_of content Database)) (survey.pages * file_page_size content) =
+    ap (λ (n : ℕ). file_cut n end) ready.size ∙ ap (λ (n : ℕ). file_cut (length (bytes_of content Database)) n) end_is in
+    let cuts : cuts_from (present l) 0 16 ≡ cuts_from content 0 16 = cuts_same content (present l) 0 16 (λ i. still i ∙ stays i) in
+    let one : Adds (Some h) (Some k) (restores (file_page_size content) (λ p. nat_le p survey.pages) (all_hot content)) = subst (Adds (Some h) (Some k)) writes done.adds in
+    let two : Adds (Some k) (Some l) (file_cut (length (bytes_of content Database)) (survey.pages * file_page_size content)) = subst (Adds (Some k) (Some l)) file cutting.0 in
+    let three : Adds (Some l) new (cuts_from content 0 16) = subst (Adds (Some l) new) cuts clearing.0 in
+    record {
+      adds = Adds-append (Some h) (Some l) new _ _ (Adds-append (Some h) (Some k) (Some l) _ _ one two) three;
+      count =
+          omega (
+            arith,
+            done.count,
+            ap length writes,
+            cutting.1,
+            ap length file,
+            clearing.1,
+            ap length cuts,
+            length-append (restores (file_page_size content) (λ p. nat_le p survey.pages) (all_hot content) ++ file_cut (length (bytes_of content Database)) (survey.pages * file_page_size content)) (cuts_from content 0 16),
+            length-append (restores (file_page_size content) (λ p. nat_le p survey.pages) (all_hot content)) (file_cut (length (bytes_of content Database)) (survey.pages * file_page_size content)),
+          );
+    }
+
+pub none_made : (told : Option History) (pages : ℕ) → WhereTold told (λ content. false ≡ any_length content 0 16) → Makes told told (λ content. rule_of content pages) 0
+unfolding rule_of
+none_made None pages nothing = tt
+none_made (Some h) pages nothing = rw (← nothing) (record { adds = Adds-nothing (Some h); count = refl })
+
+pub some_made : (told new : Option History) (pages made : ℕ) → WhereTold told (λ content. true ≡ any_length content 0 16)
+    → Makes told new (λ content. all_of content pages) made → Makes told new (λ content. rule_of content pages) made
+unfolding rule_of
+some_made None new pages made some all = tt
+some_made (Some h) new pages made some all = rw (← some) all

@@ -1,0 +1,10 @@
+pub mod Told
+pub mod Front
+pub mod Heads
+pub mod Seen
+pub mod Survey
+pub mod Known
+pub mod Rule
+pub mod Restored
+pub mod Written
+pub mod Recovered

@@ -1,0 +1,73 @@
+-- What recovery answers.
+use Rattle.std.specs.Prelude.{◌≡◌, ℕ, ◌<◌, ◌≤◌, ◌⊎◌, Bool, true, false, not, ◌&&◌, ◌==◌, List, [], take, length, Option, Some, None, Result, Ok, Err, IfErr, if◌then◌else◌}
+use Rattle.std.specs.Int.{bit_at}
+use Rattle.spe_model.specs.declared.header.Header.{Header}
+use Rattle.spe_model.specs.declared.recovery.RecoverFault.{RecoverFault}
+use Rattle.spe_model.specs.declared.recovery.RecoverFault.TheVariants as refusals
+use Rattle.spe_model.specs.Content.{Content}
+use Rattle.spe_model.specs.Faults.{Rose}
+use Rattle.spe_model.specs.Header.{fields, is_size_valid}
+use Rattle.spe_model.specs.Journal.{is_hot}
+use Rattle.spe_model.specs.Recovery.{file_page_size, image_of, journal_of, recovered}
+use Rattle.spe_recover.specs.declared.want.Want.{Want}
+use Rattle.spe_recover.specs.declared.want.Want.TheVariants.{Any, Prepared}
+
+-- there are so many recovered pages
+pub record HasPages (content : Content) (count : ℕ) : Type 0 where
+  pub pages : List (List ℕ)
+  pub recovers : recovered content ≡ Ok pages
+  pub counted : length pages ≡ count
+
+-- what the header of the recovered page 1 names
+unfoldable pub recovered_header : Content → Header
+recovered_header content = fields (take 100 (image_of content 1))
+
+-- offset 32 names a page, offset 36 is 0, and the size in pages counts
+abbrev pub is_prepared : Header → Bool
+is_prepared h = not (h.first_free == 0) && (h.free_count == 0) && is_size_valid h
+
+-- the page that names the free lists
+abbrev pub node_of : Header → Option ℕ
+node_of h = if not (h.first_free == 0) && (h.free_count == 0) then Some h.first_free else None
+
+-- the header is such as is wanted
+abbrev pub is_wanted : Want → Header → Bool
+is_wanted Any h = true
+is_wanted Prepared h = is_prepared h
+
+-- a bit for each hot journal
+abbrev pub AreHotBits : Content → ℕ → Type 0
+AreHotBits content bits = (id : ℕ) → id < 16 → bit_at bits id ≡ (if is_hot (file_page_size content) (journal_of content id) then 1 else 0)
+
+-- there are recovered pages, and their header is not such as is wanted
+pub record IsUnwanted (want : Want) (content : Content) : Type 0 where
+  pub count : ℕ
+  pub pages : HasPages content count
+  pub unwanted : is_wanted want (recovered_header content) ≡ false
+
+-- Why a content is refused: it has no recovered pages, for this reason, or they are not such as are wanted.
+abbrev pub IsRefusal : Want → RecoverFault → Content → Type 0
+IsRefusal want refusals.Disk content = Unit {0}
+IsRefusal want refusals.Memory content = Unit {0}
+IsRefusal want refusals.NotPrepared content = IsUnwanted want content
+IsRefusal want fault content = recovered content ≡ Err fault
+
+-- a refusal, and no failure
+abbrev pub IsPlain : RecoverFault → Type 0
+IsPlain refusals.Disk = ⊥
+IsPlain refusals.Memory = ⊥
+IsPlain fault = Unit {0}
+
+abbrev pub IsEitherFault : (reads reads_now ops ops_now : ℕ) → RecoverFault → Type 0
+IsEitherFault reads reads_now ops ops_now refusals.Disk = Rose reads reads_now ⊎ Rose ops ops_now
+IsEitherFault reads reads_now ops ops_now _ = Unit {0}
+
+-- two counts of faults never fall, and one has risen where the disk failed
+pub record HasCauses {X : Type 0} (reads reads_now ops ops_now : ℕ) (result : Result X RecoverFault) : Type 0 where
+  pub reads_later : reads ≤ reads_now
+  pub ops_later : ops ≤ ops_now
+  pub failed : IfErr result (IsEitherFault reads reads_now ops ops_now)
+
+-- no journal has bytes
+abbrev pub HasNoJournals : Content → Type 0
+HasNoJournals content = (id : ℕ) → id < 16 → journal_of content id ≡ []

@@ -1,0 +1,81 @@
+//! Cutting the file and the journals.
+
+ghost use Rattle.std.specs.Prelude.{◌≡◌, ◌<◌, ◌≤◌, ◌+◌, ℕ, true, IfOk, OnOk};
+ghost use Rattle.spe_recover.specs.Rule.{any_length, cuts_from, file_cut, Does};
+ghost use Rattle.spe_recover.specs.Restored.{Stays, StaysFrom, HasEither};
+ghost use Rattle.spe_recover.specs.Told.{FindsTold, HasCause};
+
+use crate::scan::journal_length;
+use crate::stop::Stop;
+use spe_disk::{Disk, FileNo};
+
+/// Whether a journal has bytes.
+pub fn any_length<D: Disk>(disk: &mut D) -> Result<bool, Stop>
+    requires attached { D.attached disk.old ≡ true }
+    ensures any { FindsTold (D.told disk.old) result (λ content any. any ≡ any_length content 0 16) }
+    ensures same { D.told disk.new ≡ D.told disk.old }
+    ensures attached { D.attached disk.new ≡ true }
+    ensures operations { D.op_faults disk.new ≡ D.op_faults disk.old }
+    ensures cause { HasCause (D.read_faults disk.old) (D.read_faults disk.new) result }
+{
+    let mut id: u8 = 0;
+    while id < 16 {
+        if journal_length(disk, id)? > 0 {
+            return Ok(true);
+        }
+        id += 1;
+    }
+    Ok(false)
+}
+
+/// Cuts the file of `size` bytes to `end` bytes, where it is longer, and answers how many operations
+/// that took.
+pub fn cut_file<D: Disk>(disk: &mut D, size: u64, end: u64) -> Result<u64, Stop>
+    requires attached { D.attached disk.old ≡ true }
+    ensures cut { IfOk result (Does (D.told disk.old) (D.told disk.new) (λ content. file_cut size end)) }
+    ensures few { IfOk result (λ made. made ≤ 1) }
+    ensures stays { OnOk result (Stays (D.told disk.old) (D.told disk.new)) }
+    ensures attached { D.attached disk.new ≡ true }
+    ensures readings { D.read_faults disk.new ≡ D.read_faults disk.old }
+    ensures cause { HasCause (D.op_faults disk.old) (D.op_faults disk.new) result }
+{
+    if size <= end {
+        return Ok(0);
+    }
+    disk.cut(FileNo::Database, end)?;
+    Ok(1)
+}
+
+// Cuts a journal that has bytes, and answers how many operations that took.
+fn cut_journal<D: Disk>(disk: &mut D, id: u8) -> Result<u64, Stop>
+    requires attached { D.attached disk.old ≡ true }
+    requires numbered { id < 16 }
+    ensures cut { IfOk result (Does (D.told disk.old) (D.told disk.new) (λ content. cuts_from content id 1)) }
+    ensures few { IfOk result (λ made. made ≤ 1) }
+    ensures stays { OnOk result (StaysFrom (id + 1) (D.told disk.old) (D.told disk.new)) }
+    ensures attached { D.attached disk.new ≡ true }
+    ensures cause { HasEither (D.read_faults disk.old) (D.read_faults disk.new) (D.op_faults disk.old) (D.op_faults disk.new) result }
+{
+    if journal_length(disk, id)? == 0 {
+        return Ok(0);
+    }
+    disk.cut(FileNo::Journal(id), 0)?;
+    Ok(1)
+}
+
+/// Cuts the journals that have bytes, in ascending order, and answers how many operations that took.
+pub fn cut_journals<D: Disk>(disk: &mut D) -> Result<u64, Stop>
+    requires attached { D.attached disk.old ≡ true }
+    ensures cut { IfOk result (Does (D.told disk.old) (D.told disk.new) (λ content. cuts_from content 0 16)) }
+    ensures few { IfOk result (λ made. made ≤ 16) }
+    ensures attached { D.attached disk.new ≡ true }
+    ensures cause { HasEither (D.read_faults disk.old) (D.read_faults disk.new) (D.op_faults disk.old) (D.op_faults disk.new) result }
+{
+    let mut made: u64 = 0;
+    let mut id: u8 = 0;
+    while id < 16 {
+        made += cut_journal(disk, id)?;
+        id += 1;
+    }
+    Ok(made)
+}

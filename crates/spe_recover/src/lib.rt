@@ -1,0 +1,23 @@
+//! Rolls back all hot journals of a database together.
+//!
+//! `recover` answers exactly where a database has recovered pages, says what they are, and makes just
+//! the operations that write them back. A refusal changes nothing and names the first reason.
+#![tactic(auto)]
+
+mod clear;
+mod front;
+mod heads;
+mod known;
+mod note;
+mod recovery;
+mod restore;
+mod rolled;
+mod scan;
+mod seen;
+mod stop;
+mod survey;
+mod want;
+mod write_back;
+
+pub use recovery::recover;
+pub use want::Want;

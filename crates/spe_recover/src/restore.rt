@@ -1,0 +1,210 @@
+//! Writing saved pages back.
+
+ghost use Rattle.std.specs.Prelude.{◌≡◌, ◌≢◌, ◌≤◌, ◌*◌, ◌^◌, ◌<◌, ◌+◌, ◌∷◌, [], ℕ, true, length, IfOk, OnOk, drop, take};
+ghost use Rattle.std.specs.List.{flat_map};
+ghost use Rattle.spe_model.specs.Journal.{Saved, hot_records, numbers_from};
+ghost use Rattle.spe_model.specs.Recovery.{journal_of};
+ghost use Rattle.spe_disk.specs.Told.{Adds};
+ghost use Rattle.spe_journal.specs.Saved.{saved_in};
+ghost use Rattle.spe_recover.specs.Rule.{write_of, without};
+ghost use Rattle.spe_recover.specs.Restored.{is_due, Restored, RestoresPiece, Stays, HasEither};
+ghost use Rattle.spe_recover.specs.Told.{WhereTold, HasCause};
+
+use crate::heads::read_kind;
+use crate::scan::{journal_length, read_piece};
+use crate::stop::Stop;
+use spe_disk::{Disk, FileNo};
+use spe_journal::{JournalKind, SavedPage, record_at};
+use std::collections::BTreeMap;
+
+// How many bytes of a journal stand before its records.
+const HEAD_BYTES: u64 = 512;
+
+// Where the bytes of page 1 begin that are written back.
+const REST_AT: usize = 24;
+
+// Writes a page back, page 1 but for its first 24 bytes.
+fn write_page<D: Disk>(disk: &mut D, page_size: u32, saved: &SavedPage<'_>) -> Result<(), Stop>
+    requires attached { D.attached disk.old ≡ true }
+    requires named { saved.now.page ≢ 0 }
+    requires low { 512 ≤ page_size }
+    requires high { page_size ≤ 65536 }
+    requires whole { length saved.now.content.now ≡ page_size }
+    ensures written { OnOk result (Adds (D.told disk.old) (D.told disk.new) (write_of page_size (record { page = saved.now.page; content = saved.now.content.now }) ∷ [])) }
+    ensures attached { D.attached disk.new ≡ true }
+    ensures readings { D.read_faults disk.new ≡ D.read_faults disk.old }
+    ensures cause { HasCause (D.op_faults disk.old) (D.op_faults disk.new) result }
+{
+    if saved.page == 1 {
+        let (_, rest) = saved.content.split_at(REST_AT);
+        disk.write_at(FileNo::Database, 24, rest)?;
+    } else {
+        let place = u64::from(saved.page - 1) * u64::from(page_size);
+        disk.write_at(FileNo::Database, place, saved.content)?;
+    }
+    Ok(())
+}
+
+// Whether a page is still to be written back, which it is no more afterwards.
+fn close(holders: &mut BTreeMap<u32, u8>, pages: u32, page: u32) -> bool
+    ensures result { result ≡ is_due holders.old pages page }
+    ensures closed { (p : ℕ) → is_due holders.new pages p ≡ without (is_due holders.old pages) page p }
+{
+    page <= pages && holders.remove(&page).is_some()
+}
+
+// Writes a page back, where that is still to be done, and answers how many operations that took.
+fn restore<D: Disk>(
+    disk: &mut D,
+    page_size: u32,
+    pages: u32,
+    saved: &SavedPage<'_>,
+    holders: &mut BTreeMap<u32, u8>,
+) -> Result<u64, Stop>
+    requires attached { D.attached disk.old ≡ true }
+    requires named { saved.now.page ≢ 0 }
+    requires low { 512 ≤ page_size }
+    requires high { page_size ≤ 65536 }
+    requires whole { length saved.now.content.now ≡ page_size }
+    ensures restored { IfOk result (Restored page_size pages (record { page = saved.now.page; content = saved.now.content.now } ∷ []) (D.told disk.old) (D.told disk.new) holders.old holders.new) }
+    ensures few { IfOk result (λ made. made ≤ 1) }
+    ensures stays { OnOk result (Stays (D.told disk.old) (D.told disk.new)) }
+    ensures attached { D.attached disk.new ≡ true }
+    ensures readings { D.read_faults disk.new ≡ D.read_faults disk.old }
+    ensures cause { HasCause (D.op_faults disk.old) (D.op_faults disk.new) result }
+{
+    if !close(holders, pages, saved.page) {
+        return Ok(0);
+    }
+    write_page(disk, page_size, saved)?;
+    Ok(1)
+}
+
+// Writes back what a piece of a journal says, where it is a record, and answers how many operations
+// that took.
+fn restore_piece<D: Disk>(
+    disk: &mut D,
+    nonce: u32,
+    page_size: u32,
+    pages: u32,
+    piece: &[u8],
+    holders: &mut BTreeMap<u32, u8>,
+) -> Result<Option<u64>, Stop>
+    requires attached { D.attached disk.old ≡ true }
+    requires low { 512 ≤ page_size }
+    requires high { page_size ≤ 65536 }
+    requires whole { length piece.now ≡ page_size + 8 }
+    ensures restores { IfOk result (RestoresPiece nonce page_size pages piece.now (D.told disk.old) (D.told disk.new) holders.old holders.new) }
+    ensures attached { D.attached disk.new ≡ true }
+    ensures readings { D.read_faults disk.new ≡ D.read_faults disk.old }
+    ensures cause { HasCause (D.op_faults disk.old) (D.op_faults disk.new) result }
+{
+    match record_at(nonce, page_size, piece) {
+        Some(saved) => Ok(Some(restore(disk, page_size, pages, &saved, holders)?)),
+        None => Ok(None),
+    }
+}
+
+// Writes back the first records of the pages that a journal of `end` bytes holds, and answers how
+// many operations that took.
+fn restore_records<D: Disk>(
+    disk: &mut D,
+    id: u8,
+    nonce: u32,
+    page_size: u32,
+    pages: u32,
+    end: u64,
+    buf: &mut [u8],
+    holders: &mut BTreeMap<u32, u8>,
+) -> Result<u64, Stop>
+    requires attached { D.attached disk.old ≡ true }
+    requires numbered { id < 16 }
+    requires low { 512 ≤ page_size }
+    requires high { page_size ≤ 65536 }
+    requires page { length buf.old ≡ page_size + 8 }
+    requires end { WhereTold (D.told disk.old) (λ content. end ≡ length (journal_of content id)) }
+    ensures restored { IfOk result (λ made. WhereTold (D.told disk.old) (λ content.
+        Restored page_size pages (saved_in nonce page_size (drop 512 (journal_of content id))) (D.told disk.old) (D.told disk.new) holders.old holders.new made)) }
+    ensures few { IfOk result (λ made. made * 520 ≤ 2 ^ 64) }
+    ensures stays { OnOk result (Stays (D.told disk.old) (D.told disk.new)) }
+    ensures page { length buf.new ≡ page_size + 8 }
+    ensures attached { D.attached disk.new ≡ true }
+    ensures cause { HasEither (D.read_faults disk.old) (D.read_faults disk.new) (D.op_faults disk.old) (D.op_faults disk.new) result }
+{
+    let size = u64::from(page_size) + 8;
+    let mut made: u64 = 0;
+    let mut at = HEAD_BYTES;
+    let mut left = end.saturating_sub(HEAD_BYTES);
+    while left >= size {
+        read_piece(disk, id, at, buf)?;
+        match restore_piece(disk, nonce, page_size, pages, buf, holders)? {
+            Some(more) => made += more,
+            None => return Ok(made),
+        }
+        at += size;
+        left -= size;
+    }
+    Ok(made)
+}
+
+// Writes back the first records of the pages that a hot journal holds, and answers how many
+// operations that took.
+fn restore_journal<D: Disk>(
+    disk: &mut D,
+    id: u8,
+    page_size: u32,
+    pages: u32,
+    buf: &mut [u8],
+    holders: &mut BTreeMap<u32, u8>,
+) -> Result<u64, Stop>
+    requires attached { D.attached disk.old ≡ true }
+    requires numbered { id < 16 }
+    requires low { 512 ≤ page_size }
+    requires high { page_size ≤ 65536 }
+    requires page { length buf.old ≡ page_size + 8 }
+    ensures restored { IfOk result (λ made. WhereTold (D.told disk.old) (λ content.
+        Restored page_size pages (hot_records page_size (journal_of content id)) (D.told disk.old) (D.told disk.new) holders.old holders.new made)) }
+    ensures few { IfOk result (λ made. made * 520 ≤ 2 ^ 64) }
+    ensures stays { OnOk result (Stays (D.told disk.old) (D.told disk.new)) }
+    ensures page { length buf.new ≡ page_size + 8 }
+    ensures attached { D.attached disk.new ≡ true }
+    ensures cause { HasEither (D.read_faults disk.old) (D.read_faults disk.new) (D.op_faults disk.old) (D.op_faults disk.new) result }
+{
+    match read_kind(disk, id, page_size)? {
+        JournalKind::Hot { nonce } => {
+            let end = journal_length(disk, id)?;
+            restore_records(disk, id, nonce, page_size, pages, end, buf, holders)
+        }
+        JournalKind::Cold => Ok(0),
+        JournalKind::OtherSize(_) => Ok(0),
+    }
+}
+
+/// Writes back the first hot record of each page that is due, through one buffer of a record's size,
+/// and answers how many operations that took.
+pub fn restore_all<D: Disk>(
+    disk: &mut D,
+    page_size: u32,
+    pages: u32,
+    buf: &mut [u8],
+    holders: &mut BTreeMap<u32, u8>,
+) -> Result<u64, Stop>
+    requires attached { D.attached disk.old ≡ true }
+    requires low { 512 ≤ page_size }
+    requires high { page_size ≤ 65536 }
+    requires page { length buf.old ≡ page_size + 8 }
+    ensures restored { IfOk result (λ made. WhereTold (D.told disk.old) (λ content.
+        Restored page_size pages (flat_map (λ i. hot_records page_size (journal_of content i)) (numbers_from 0 16)) (D.told disk.old) (D.told disk.new) holders.old holders.new made)) }
+    ensures few { IfOk result (λ made. made ≤ 2 ^ 60) }
+    ensures stays { OnOk result (Stays (D.told disk.old) (D.told disk.new)) }
+    ensures attached { D.attached disk.new ≡ true }
+    ensures cause { HasEither (D.read_faults disk.old) (D.read_faults disk.new) (D.op_faults disk.old) (D.op_faults disk.new) result }
+{
+    let mut made: u64 = 0;
+    let mut id: u8 = 0;
+    while id < 16 {
+        made += restore_journal(disk, id, page_size, pages, buf, holders)?;
+        id += 1;
+    }
+    Ok(made)
+}
