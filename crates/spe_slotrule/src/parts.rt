@@ -113,7 +113,7 @@ pub struct NotePart<E> {
     pub floor: u64,
     pub faults: u64,
     pub stop: Option<u64>,
-    // Where a session made it, the greatest number that this session was told.
+    // What the session that made the note had been told at most; none where no session made it.
     pub told: Option<u64>,
 }
 
