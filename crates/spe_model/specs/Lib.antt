@@ -13,6 +13,8 @@ pub mod Serial
 pub mod Record
 pub mod Journal
 pub mod Recovery
+pub mod Rollback
+pub mod Covered
 pub mod Paging
 pub mod Chain
 pub mod Tree

@@ -9,7 +9,7 @@ use Rattle.spe_model.specs.declared.recovery.RecoverFault.{RecoverFault}
 use Rattle.spe_model.specs.declared.recovery.RecoverFault.TheVariants as refusals
 use Rattle.spe_model.specs.declared.file.FileNo.TheVariants.{Database, Journal}
 use Rattle.spe_model.specs.Content.{Content, bytes_of}
-use Rattle.spe_model.specs.Header.{has_fault, header_of, page_size_at, page_count_of}
+use Rattle.spe_model.specs.Header.{has_fault, header_of, fields, page_size_at, page_count_of}
 use Rattle.spe_model.specs.Journal.{Saved, has_head, head_page_size, hot_records, numbers_from}
 
 -- the journals
@@ -115,3 +115,7 @@ recovered_front content None = recovered_sized content (other_size content)
 -- the recovered pages, or the first reason why there are none
 unfoldable pub recovered : Content → Result (List (List ℕ)) RecoverFault
 recovered content = recovered_front content (front_fault content)
+
+-- what the header of the recovered page 1 names
+unfoldable pub recovered_header : Content → Header
+recovered_header content = fields (take 100 (image_of content 1))

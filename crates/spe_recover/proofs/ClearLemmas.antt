@@ -8,7 +8,8 @@ use Rattle.spe_model.specs.Journal.{numbers_from}
 use Rattle.spe_model.specs.Recovery.{journal_of}
 use Rattle.spe_model.specs.Trace.{History, present}
 use Rattle.spe_disk.specs.Told.{Adds}
-use Rattle.spe_recover.specs.Rule.{any_length, cuts_from, cut_of, has_length, Does}
+use Rattle.spe_model.specs.Rollback.{any_length, cuts_from, cut_of, has_length}
+use Rattle.spe_recover.specs.Rule.{Does}
 use Rattle.spe_recover.specs.Restored.{StaysFrom}
 use Rattle.spe_recover.specs.Told.{WhereTold}
 use Rattle.spe_recover.proofs.RestoreLemmas.{Adds-nothing, Adds-append, file_stays, present_after}

@@ -10,7 +10,7 @@ use Rattle.spe_model.specs.Journal.{Saved, numbers_from}
 use Rattle.spe_model.specs.Recovery.{journal_of, file_page_size, all_hot}
 use Rattle.spe_model.specs.Trace.{Operation, History, present, after, made_by}
 use Rattle.spe_model.specs.Trace.Operation.{Cut}
-use Rattle.spe_recover.specs.Rule.{any_length, cut_of, cuts_from, file_cut, firsts, has_length, rule_of, write_of}
+use Rattle.spe_model.specs.Rollback.{any_length, cut_of, cuts_from, file_cut, firsts, has_length, rule_of, write_of}
 use Rattle.spe_recover.specs.Recovered.{HasNoJournals}
 use Rattle.spe_recover.specs.Told.{WhereTold}
 use Rattle.spe_recover.specs.Written.{Makes}

@@ -16,7 +16,8 @@ use Rattle.spe_recover.specs.Known.{IsKnown, IsRefused}
 use Rattle.spe_recover.specs.Survey.{images_to}
 use Rattle.spe_recover.specs.Told.{WhereTold}
 use Rattle.spe_recover.specs.Written.{IsReady}
-use Rattle.spe_recover.specs.Recovered.{HasPages, IsRefusal, IsUnwanted, is_wanted, recovered_header, node_of}
+use Rattle.spe_recover.specs.Recovered.{HasPages, IsRefusal, IsUnwanted, is_wanted, node_of}
+use Rattle.spe_model.specs.Recovery.{recovered_header}
 use Rattle.spe_recover.proofs.SurveyLemmas.{some_of, is_read}
 
 numbers-length : (n count : ℕ) → length (numbers_from n count) ≡ count

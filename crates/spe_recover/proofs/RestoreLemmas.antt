@@ -12,7 +12,7 @@ use Rattle.spe_model.specs.Recovery.{journal_of}
 use Rattle.spe_model.specs.Trace.{Operation, History, present, after, made_by}
 use Rattle.spe_model.specs.Trace.Operation.{Write, Cut}
 use Rattle.spe_disk.specs.Told.{Adds}
-use Rattle.spe_recover.specs.Rule.{write_of, without, firsts, restores}
+use Rattle.spe_model.specs.Rollback.{write_of, without, firsts, restores}
 use Rattle.spe_recover.specs.Restored.{Holders, is_due, due_after, Restored, Stays}
 use Rattle.spe_recover.specs.Told.{WhereTold}
 

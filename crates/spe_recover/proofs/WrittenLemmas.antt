@@ -12,7 +12,8 @@ use Rattle.spe_model.specs.Trace.{Operation, History, present}
 use Rattle.spe_disk.specs.Told.{Adds}
 use Rattle.spe_recover.specs.declared.survey.Survey.{Survey}
 use Rattle.spe_recover.specs.Restored.{Holders, Restored, Stays, is_due}
-use Rattle.spe_recover.specs.Rule.{any_length, cuts_from, file_cut, firsts, restores, rule_of, without, write_of, Does}
+use Rattle.spe_model.specs.Rollback.{any_length, cuts_from, file_cut, firsts, restores, rule_of, without, write_of}
+use Rattle.spe_recover.specs.Rule.{Does}
 use Rattle.spe_recover.specs.Told.{WhereTold}
 use Rattle.spe_recover.specs.Written.{IsReady, Makes, all_of}
 use Rattle.spe_recover.proofs.ClearLemmas.{cuts_from-next, cuts_from-none, cut_same}

@@ -1,14 +1,14 @@
 -- What recovery answers.
-use Rattle.std.specs.Prelude.{◌≡◌, ℕ, ◌<◌, ◌≤◌, ◌⊎◌, Bool, true, false, not, ◌&&◌, ◌==◌, List, [], take, length, Option, Some, None, Result, Ok, Err, IfErr, if◌then◌else◌}
+use Rattle.std.specs.Prelude.{◌≡◌, ℕ, ◌<◌, ◌≤◌, ◌⊎◌, Bool, true, false, not, ◌&&◌, ◌==◌, List, [], length, Option, Some, None, Result, Ok, Err, IfErr, if◌then◌else◌}
 use Rattle.std.specs.Int.{bit_at}
 use Rattle.spe_model.specs.declared.header.Header.{Header}
 use Rattle.spe_model.specs.declared.recovery.RecoverFault.{RecoverFault}
 use Rattle.spe_model.specs.declared.recovery.RecoverFault.TheVariants as refusals
 use Rattle.spe_model.specs.Content.{Content}
 use Rattle.spe_model.specs.Faults.{Rose}
-use Rattle.spe_model.specs.Header.{fields, is_size_valid}
+use Rattle.spe_model.specs.Header.{is_size_valid}
 use Rattle.spe_model.specs.Journal.{is_hot}
-use Rattle.spe_model.specs.Recovery.{file_page_size, image_of, journal_of, recovered}
+use Rattle.spe_model.specs.Recovery.{file_page_size, journal_of, recovered, recovered_header}
 use Rattle.spe_recover.specs.declared.want.Want.{Want}
 use Rattle.spe_recover.specs.declared.want.Want.TheVariants.{Any, Prepared}
 
@@ -17,10 +17,6 @@ pub record HasPages (content : Content) (count : ℕ) : Type 0 where
   pub pages : List (List ℕ)
   pub recovers : recovered content ≡ Ok pages
   pub counted : length pages ≡ count
-
--- what the header of the recovered page 1 names
-unfoldable pub recovered_header : Content → Header
-recovered_header content = fields (take 100 (image_of content 1))
 
 -- offset 32 names a page, offset 36 is 0, and the size in pages counts
 abbrev pub is_prepared : Header → Bool

@@ -8,7 +8,7 @@ use Rattle.spe_model.specs.Recovery.{journal_of}
 use Rattle.spe_model.specs.Trace.{History, present}
 use Rattle.spe_disk.specs.Told.{Adds}
 use Rattle.spe_journal.specs.Saved.{SavesFirst, SavesNone}
-use Rattle.spe_recover.specs.Rule.{restores, without}
+use Rattle.spe_model.specs.Rollback.{restores, without}
 use Rattle.spe_recover.specs.declared.stop.Stop.{Stop}
 use Rattle.spe_recover.specs.declared.stop.Stop.TheVariants.{Disk, Memory}
 

@@ -10,7 +10,7 @@ use Rattle.spe_model.specs.Trace.{Operation, History}
 use Rattle.spe_disk.specs.Told.{Adds}
 use Rattle.spe_recover.specs.declared.survey.Survey.{Survey}
 use Rattle.spe_recover.specs.Restored.{Holders}
-use Rattle.spe_recover.specs.Rule.{restores, file_cut, cuts_from}
+use Rattle.spe_model.specs.Rollback.{restores, file_cut, cuts_from}
 use Rattle.spe_recover.specs.Told.{WhereTold}
 
 -- what writing back rests on

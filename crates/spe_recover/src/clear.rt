@@ -1,7 +1,8 @@
 //! Cutting the file and the journals.
 
 ghost use Rattle.std.specs.Prelude.{◌≡◌, ◌<◌, ◌≤◌, ◌+◌, ℕ, true, IfOk, OnOk};
-ghost use Rattle.spe_recover.specs.Rule.{any_length, cuts_from, file_cut, Does};
+ghost use Rattle.spe_model.specs.Rollback.{any_length, cuts_from, file_cut};
+ghost use Rattle.spe_recover.specs.Rule.{Does};
 ghost use Rattle.spe_recover.specs.Restored.{Stays, StaysFrom, HasEither};
 ghost use Rattle.spe_recover.specs.Told.{FindsTold, HasCause};
 

@@ -3,10 +3,11 @@
 ghost use Rattle.std.specs.Prelude.{◌≡◌, ◌≤◌, true, IfOk, IfErr, OnOk};
 ghost use Rattle.spe_model.specs.Recovery.{file_page_size};
 ghost use Rattle.spe_recover.specs.Restored.{HasEither};
-ghost use Rattle.spe_recover.specs.Rule.{rule_of};
+ghost use Rattle.spe_model.specs.Rollback.{rule_of};
 ghost use Rattle.spe_recover.specs.Told.{WhereTold};
 ghost use Rattle.spe_recover.specs.Written.{IsReady, Makes};
-ghost use Rattle.spe_recover.specs.Recovered.{HasPages, HasNoJournals, AreHotBits, HasCauses, IsPlain, IsRefusal, recovered_header, is_prepared, is_wanted, node_of};
+ghost use Rattle.spe_recover.specs.Recovered.{HasPages, HasNoJournals, AreHotBits, HasCauses, IsPlain, IsRefusal, is_prepared, is_wanted, node_of};
+ghost use Rattle.spe_model.specs.Recovery.{recovered_header};
 
 use crate::known::{Known, find_known};
 use crate::rolled::find_rolled;

@@ -6,7 +6,7 @@ ghost use Rattle.spe_model.specs.Journal.{Saved, hot_records, numbers_from};
 ghost use Rattle.spe_model.specs.Recovery.{journal_of};
 ghost use Rattle.spe_disk.specs.Told.{Adds};
 ghost use Rattle.spe_journal.specs.Saved.{saved_in};
-ghost use Rattle.spe_recover.specs.Rule.{write_of, without};
+ghost use Rattle.spe_model.specs.Rollback.{write_of, without};
 ghost use Rattle.spe_recover.specs.Restored.{is_due, Restored, RestoresPiece, Stays, HasEither};
 ghost use Rattle.spe_recover.specs.Told.{WhereTold, HasCause};
 

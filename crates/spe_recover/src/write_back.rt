@@ -1,7 +1,7 @@
 //! Writing all back.
 
 ghost use Rattle.std.specs.Prelude.{◌≡◌, ◌≤◌, ◌+◌, true, length, IfOk};
-ghost use Rattle.spe_recover.specs.Rule.{rule_of};
+ghost use Rattle.spe_model.specs.Rollback.{rule_of};
 ghost use Rattle.spe_recover.specs.Restored.{HasEither};
 ghost use Rattle.spe_recover.specs.Told.{WhereTold};
 ghost use Rattle.spe_recover.specs.Written.{IsReady, Makes, all_of};
@@ -38,7 +38,7 @@ fn write_files<D: Disk>(
 }
 
 /// Makes the operations of recovery, and answers how many there were.
-#[tactic(auto, unfolding(crate::specs::Rule::rule_of))]
+#[tactic(auto, unfolding(spe_model::specs::Rollback::rule_of))]
 pub fn write_back<D: Disk>(
     alloc: Global,
     disk: &mut D,

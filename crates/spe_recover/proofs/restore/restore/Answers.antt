@@ -1,5 +1,5 @@
 use Rattle.spe_model.specs.Journal.{Saved}
-use Rattle.spe_recover.specs.Rule.{write_of}
+use Rattle.spe_model.specs.Rollback.{write_of}
 use Rattle.spe_recover.proofs.RestoreLemmas.{told_stays, page_stays}
 use Rattle.spe_recover.proofs.restore.restore.Goals as goal
 
