@@ -7,7 +7,8 @@ use Rattle.std.proofs.lemmas.Bool.Decides.{nat_tests}
 use Rattle.std.proofs.lemmas.List.{drop-set, set_at}
 use Rattle.std.specs.Prelude.{◌==◌, if◌then◌else◌}
 use Rattle.spe_model.specs.Varint.{varint_from, varint_of}
-use Rattle.spe_format.specs.Spelling.{AreBytes, groups, varint_bytes, varint_length}
+use Rattle.spe_format.specs.Spelling.{AreBytes, groups, varint_bytes}
+use Rattle.spe_model.specs.Varint.{varint_length}
 
 -- what fewer than nine bytes give fits 56 bits
 pub fits_56 : (n v : ℕ) → v < 128 ^ n → n ≤ 8 → v < 2 ^ 56

@@ -1,11 +1,6 @@
 -- The shortest spelling of a number as a varint, which is the one that is written.
-use Rattle.std.specs.Prelude.{ℕ, zero, suc, ◌+◌, ◌-◌, ◌*◌, ◌/◌, ◌%◌, ◌^◌, ◌<◌, List, [], ◌∷◌, ◌++◌, ◌==◌, nat_lt, if◌then◌else◌, slice_index}
-use Rattle.std.specs.List.{find}
-use Rattle.std.specs.Option.{unwrap_or}
-
--- how many bytes it takes: seven bits in each of up to eight, else nine
-abbrev pub varint_length : ℕ → ℕ
-varint_length value = unwrap_or (find (λ n. nat_lt value (2 ^ (7 * n))) (1 ∷ 2 ∷ 3 ∷ 4 ∷ 5 ∷ 6 ∷ 7 ∷ 8 ∷ [])) 9
+use Rattle.std.specs.Prelude.{ℕ, zero, suc, ◌+◌, ◌-◌, ◌*◌, ◌/◌, ◌%◌, ◌<◌, List, [], ◌∷◌, ◌++◌, ◌==◌, if◌then◌else◌, slice_index}
+use Rattle.spe_model.specs.Varint.{varint_length}
 
 -- the lowest n groups of seven bits, the highest first, each as a byte that others follow
 abbrev pub groups : ℕ → ℕ → List ℕ

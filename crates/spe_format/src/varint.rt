@@ -2,7 +2,8 @@
 
 ghost use Rattle.std.specs.Prelude.{◌≡◌, ◌<◌, ◌≤◌, ◌-◌, ◌^◌, ℕ, List, ◌++◌, drop, length, Some, IfSome};
 ghost use Rattle.spe_model.specs.Varint.{varint_of};
-ghost use Rattle.spe_format.specs.Spelling.{AreBytes, groups, varint_bytes, varint_length};
+ghost use Rattle.spe_format.specs.Spelling.{AreBytes, groups, varint_bytes};
+ghost use Rattle.spe_model.specs.Varint.{varint_length};
 
 /// Reads the varint at the front: its value and its length in bytes, 1 to 9.
 ///

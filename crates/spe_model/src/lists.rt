@@ -140,3 +140,35 @@ impl Words {
         self.inner.as_slice()
     }
 }
+
+/// Names, seen as a list of texts.
+#[derive(Debug, Drop)]
+pub struct Names {
+    inner: Vec<Text>,
+}
+
+impl Model for Names {
+    ghost use Rattle.std.specs.Prelude.{ℕ, List};
+
+    ghost Value = { List (List ℕ) };
+
+    ghost view = { λ t. t.inner.items };
+}
+
+impl Names {
+    ghost use Rattle.std.specs.Prelude.{◌≡◌};
+
+    /// These names.
+    pub fn new(inner: Vec<Text>) -> Names
+        ensures { result ≡ inner.items }
+    {
+        Names { inner }
+    }
+
+    /// The names as a slice.
+    pub fn as_slice(&self) -> &[Text]
+        ensures { result.now ≡ self.now }
+    {
+        self.inner.as_slice()
+    }
+}

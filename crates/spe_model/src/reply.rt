@@ -1,0 +1,83 @@
+//! Replies to statements.
+
+ghost use Rattle.std.specs.Prelude.{◌≡◌};
+
+use crate::value::Rows;
+use std::marker::Model;
+
+/// Why a statement changed nothing: the lowest number that holds.
+#[derive(Clone, Copy, Debug, PartialEq, Eq)]
+pub enum Refusal {
+    /// It writes, and its transaction is read-only.
+    ReadOnly = 1,
+    /// There is no table of its name.
+    NoTable = 2,
+    /// The table is closed to statements.
+    ClosedTable = 3,
+    /// A name is neither a column nor a name of the rowid.
+    NoColumn = 4,
+    /// A condition is on a column that is not the rowid.
+    NotByRowid = 5,
+    /// Values and columns differ in number, or a column or the rowid is set twice.
+    Count = 6,
+    /// A value is of a class that its column, or the rowid, does not take.
+    Class = 7,
+    /// NULL is given, or left, for a NOT NULL column that is not the rowid.
+    NotNull = 8,
+    /// UPDATE sets the rowid.
+    RowidFixed = 9,
+    /// A row has the rowid of the one to be inserted.
+    RowidTaken = 10,
+    /// No rowid is given, and the largest is 2^63 - 1.
+    RowidsUsedUp = 11,
+    /// A record to be written has more than 1,000,000 bytes.
+    TooLarge = 12,
+}
+
+/// What a statement answers.
+#[derive(Debug, Drop)]
+pub enum Reply {
+    /// The rows that were chosen, each with its rowid and the values that were named.
+    Rows(Rows),
+    /// How many rows were chosen.
+    Count(u64),
+    /// How many rows were changed or went.
+    Changed(u64),
+    /// The rowid of the new row.
+    Inserted(i64),
+    /// Nothing changed, for this reason.
+    Refused(Refusal),
+}
+
+/// Replies in the order of their statements, seen as a list.
+#[derive(Debug, Drop)]
+pub struct Replies {
+    inner: Vec<Reply>,
+}
+
+impl Model for Replies {
+    ghost use Rattle.std.specs.Prelude.{List};
+    ghost use Rattle.spe_model.specs.declared.reply.Reply.{Reply};
+
+    ghost Value = { List Reply };
+
+    ghost view = { λ t. t.inner.items };
+}
+
+impl Replies {
+    ghost use Rattle.std.specs.Prelude.{◌≡◌};
+
+    /// These replies.
+    pub fn new(inner: Vec<Reply>) -> Replies
+        ensures { result ≡ inner.items }
+    {
+        Replies { inner }
+    }
+
+    /// The replies as a slice.
+    pub fn as_slice(&self) -> &[Reply]
+        ensures { result.now ≡ self.now }
+    {
+        self.inner.as_slice()
+    }
+}
