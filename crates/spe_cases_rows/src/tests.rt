@@ -1,4 +1,5 @@
 mod files;
+mod journals;
 mod outside;
 mod rows;
 mod run;

@@ -48,5 +48,5 @@ pub record KeepsPages (old : History) (new : Option History) : Type 0 where
 
 -- the same, where the disk tells what was done
 abbrev pub LeavesPages : Option History → Option History → Type 0
-LeavesPages None new = new ≡ None
+LeavesPages None new = Unit {0}
 LeavesPages (Some h) new = KeepsPages h new

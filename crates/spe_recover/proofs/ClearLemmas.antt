@@ -11,7 +11,9 @@ use Rattle.spe_disk.specs.Told.{Adds}
 use Rattle.spe_model.specs.Rollback.{any_length, cuts_from, cut_of, has_length}
 use Rattle.spe_recover.specs.Rule.{Does}
 use Rattle.spe_recover.specs.Restored.{StaysFrom}
+use Rattle.spe_recover.specs.Cuts.{AddsCut, MakesCut}
 use Rattle.spe_recover.specs.Told.{WhereTold}
+use Rattle.spe_recover.proofs.CutLemmas.{HasLeft, left_first, left_next, left_broken}
 use Rattle.spe_recover.proofs.RestoreLemmas.{Adds-nothing, Adds-append, file_stays, present_after}
 
 -- looking for a journal with bytes, as far as it has come
@@ -149,3 +151,41 @@ uncut_none (Some h) now id made all uncut stays =
     let none : cuts_from (present h) id (16 - id) ≡ [] = cuts_from-none (present h) id (16 - id) (omega arith) in
     let done = uncut now (subst (Adds now now) (sym none) (Adds-nothing now)) in
     (done.0, omega (arith, done.1, ap length none))
+
+-- a journal's cut broke off
+pub cut_broken : (told new : Option History) (id n : ℕ) → n ≢ 0 → WhereTold told (λ content. n ≡ length (journal_of content id))
+    → MakesCut told new (λ content. cut_of id ∷ []) → MakesCut told new (λ content. cuts_from content id 1)
+cut_broken None new id n some is cut = tt
+cut_broken (Some h) new id n some is cut =
+    let long : has_length (present h) id ≡ true = grind (arith, nat_tests, is) in
+    let one : cuts_from (present h) id 1 ≡ cut_of id ∷ [] = cut_one (present h) id ∙ rw long refl in
+    subst (AddsCut (Some h) new) (sym one) cut
+
+-- the cuts of the journals from one on are left
+abbrev pub HasCutsLeft : ℕ → Option History → Option History → Type 0
+HasCutsLeft id first now = WhereTold first (λ content. HasLeft first now (cuts_from content 0 16) (cuts_from content id (16 - id)))
+
+cuts_step : (content : Content) (id : ℕ) → id < 16 → cuts_from content id (16 - id) ≡ cuts_from content id 1 ++ cuts_from content (id + 1) (16 - (id + 1))
+cuts_step content id few =
+    let same : 16 - id - 1 ≡ 16 - (id + 1) = omega arith in
+    cuts_from-next content id (16 - id) (omega arith) ∙ ap (λ (n : ℕ). cuts_from content id 1 ++ cuts_from content (id + 1) n) same
+
+pub cuts_first : (told : Option History) → HasCutsLeft 0 told told
+cuts_first None = tt
+cuts_first (Some h) = left_first (Some h) (cuts_from (present h) 0 16)
+
+pub cuts_turn : (first now next : Option History) (id some : ℕ) → id < 16 → StaysFrom id first now → Does now next (λ content. cuts_from content id 1) some
+    → HasCutsLeft id first now → HasCutsLeft (id + 1) first next
+cuts_turn None now next id some few stays does begun = tt
+cuts_turn (Some h) None next id some few stays does begun = absurd stays
+cuts_turn (Some h) (Some k) next id some few stays does begun =
+    let here : cuts_from (present k) id 1 ≡ cuts_from (present h) id 1 = cut_same (present h) (present k) id (stays id (omega arith)) in
+    left_next (Some h) (Some k) next (cuts_from (present h) 0 16) _ (cuts_from (present h) id 1) _ (cuts_step (present h) id few) (subst (Adds (Some k) next) here does.0) begun
+
+pub cuts_broken : (first now next : Option History) (id : ℕ) → id < 16 → StaysFrom id first now → MakesCut now next (λ content. cuts_from content id 1)
+    → HasCutsLeft id first now → MakesCut first next (λ content. cuts_from content 0 16)
+cuts_broken None now next id few stays cut begun = tt
+cuts_broken (Some h) None next id few stays cut begun = absurd stays
+cuts_broken (Some h) (Some k) next id few stays cut begun =
+    let here : cuts_from (present k) id 1 ≡ cuts_from (present h) id 1 = cut_same (present h) (present k) id (stays id (omega arith)) in
+    left_broken (Some h) (Some k) next (cuts_from (present h) 0 16) _ (cuts_from (present h) id 1) _ (cuts_step (present h) id few) (subst (AddsCut (Some k) next) here cut) begun

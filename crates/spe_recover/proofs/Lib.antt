@@ -9,8 +9,11 @@ mod SurveyLemmas
 mod KnownLemmas
 mod RestoreLemmas
 mod TurnLemmas
+mod CutLemmas
+mod LeftLemmas
 mod ClearLemmas
 mod WrittenLemmas
 mod RolledLemmas
 mod RecoveredLemmas
-mod EmptiedLemmas
+mod StopLemmas
+pub mod SettledLemmas

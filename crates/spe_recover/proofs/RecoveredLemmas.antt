@@ -1,5 +1,5 @@
 -- What recovery answers.
-use Rattle.std.proofs.Common.{◌≡◌, ℕ, zero, suc, ◌+◌, List, [], ◌∷◌, length, map, take, refl, sym, ap, ◌∙◌, Bool, false, Option, Some, None, Ok}
+use Rattle.std.proofs.Common.{◌≡◌, ℕ, zero, suc, ◌+◌, List, [], ◌∷◌, length, map, take, refl, sym, ap, subst, ◌∙◌, Bool, false, Option, Some, None, Ok}
 use Rattle.spe_model.specs.declared.header.Header.{Header}
 use Rattle.spe_model.specs.declared.header.HeaderFault.{HeaderFault}
 use Rattle.spe_model.specs.declared.recovery.RecoverFault.{RecoverFault}
@@ -15,8 +15,11 @@ use Rattle.spe_recover.specs.declared.want.Want.{Want}
 use Rattle.spe_recover.specs.Known.{IsKnown, IsRefused}
 use Rattle.spe_recover.specs.Survey.{images_to}
 use Rattle.spe_recover.specs.Told.{WhereTold}
-use Rattle.spe_recover.specs.Written.{IsReady}
-use Rattle.spe_recover.specs.Recovered.{HasPages, IsRefusal, IsUnwanted, is_wanted, node_of}
+use Rattle.spe_model.specs.Rollback.{rule_of}
+use Rattle.spe_recover.specs.Cuts.{AddsCut, MakesCut}
+use Rattle.spe_recover.specs.Written.{IsReady, Makes}
+use Rattle.spe_recover.specs.Recovered.{HasPages, IsRefusal, IsUnwanted, is_wanted, node_of, rollback_of, rollback_to}
+use Rattle.spe_recover.proofs.CutLemmas.{IsCut-whole}
 use Rattle.spe_model.specs.Recovery.{recovered_header}
 use Rattle.spe_recover.proofs.SurveyLemmas.{some_of, is_read}
 
@@ -103,3 +106,20 @@ is_ready (Some h) known k = record {
   size = k.survey.size;
   held = some_of (present h) known.seen (is_read (present h) known.survey.page_size known.seen k.survey.paged k.seen);
 }
+
+rollback_is : (content : Content) (known : Known) → IsKnown content known (recovered content) → rule_of content known.survey.pages ≡ rollback_of content
+rollback_is content known k =
+    let found = pages_known content known k in
+    ap (rule_of content) (sym found.counted) ∙ ap (rollback_to content) (sym found.recovers)
+
+pub rolling_stopped : (told new : Option History) (known : Known) → WhereTold told (λ content. IsKnown content known (recovered content))
+    → MakesCut told new (λ content. rule_of content known.survey.pages) → MakesCut told new rollback_of
+rolling_stopped None new known k cut = tt
+rolling_stopped (Some h) new known k cut = subst (AddsCut (Some h) new) (rollback_is (present h) known k) cut
+
+pub rolling_done : (told new : Option History) (known : Known) (made : ℕ) → WhereTold told (λ content. IsKnown content known (recovered content))
+    → Makes told new (λ content. rule_of content known.survey.pages) made → MakesCut told new rollback_of
+rolling_done None new known made k makes = tt
+rolling_done (Some h) new known made k makes =
+    let ops = rule_of (present h) known.survey.pages in
+    subst (AddsCut (Some h) new) (rollback_is (present h) known k) (record { made = ops; adds = makes.adds; holds = IsCut-whole ops })

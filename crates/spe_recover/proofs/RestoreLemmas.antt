@@ -125,16 +125,26 @@ due_after-append due (s ∷ ss) ys p = due_after-append (without due s.page) ss 
 pub Restored-nothing : (page_size pages : ℕ) (told : Option History) (holders : Holders) → Restored page_size pages [] told told holders holders 0
 Restored-nothing page_size pages told holders = record { adds = Adds-nothing told; count = refl; due = λ p. refl }
 
+-- the writes of some records and of those behind them
+pub restores-parts : (page_size pages : ℕ) (xs ys : List Saved) (before : Holders)
+    → restores page_size (is_due before pages) (xs ++ ys) ≡ restores page_size (is_due before pages) xs ++ restores page_size (due_after (is_due before pages) xs) ys
+restores-parts page_size pages xs ys before =
+    ap (map (write_of page_size)) (firsts-append (is_due before pages) xs ys)
+    ∙ map-append (write_of page_size) (firsts (is_due before pages) xs) (firsts (due_after (is_due before pages) xs) ys)
+
+pub restores-append : (page_size pages : ℕ) (xs ys : List Saved) (before between : Holders) → ((p : ℕ) → is_due between pages p ≡ due_after (is_due before pages) xs p)
+    → restores page_size (is_due before pages) (xs ++ ys) ≡ restores page_size (is_due before pages) xs ++ restores page_size (is_due between pages) ys
+restores-append page_size pages xs ys before between due =
+    let next : restores page_size (is_due between pages) ys ≡ restores page_size (due_after (is_due before pages) xs) ys =
+    ap (map (write_of page_size)) (firsts-same (is_due between pages) (due_after (is_due before pages) xs) ys due) in
+    restores-parts page_size pages xs ys before ∙ ap (λ (ops : List Operation). restores page_size (is_due before pages) xs ++ ops) (sym next)
+
 pub Restored-append : (page_size pages : ℕ) (xs ys : List Saved) (first middle last : Option History) (before between now : Holders) (made more : ℕ)
     → Restored page_size pages xs first middle before between made → Restored page_size pages ys middle last between now more
     → Restored page_size pages (xs ++ ys) first last before now (made + more)
 Restored-append page_size pages xs ys first middle last before between now made more a b =
-    let next : restores page_size (is_due between pages) ys ≡ restores page_size (due_after (is_due before pages) xs) ys =
-    ap (map (write_of page_size)) (firsts-same (is_due between pages) (due_after (is_due before pages) xs) ys a.due) in
     let split : restores page_size (is_due before pages) (xs ++ ys) ≡ restores page_size (is_due before pages) xs ++ restores page_size (is_due between pages) ys =
-    ap (map (write_of page_size)) (firsts-append (is_due before pages) xs ys)
-    ∙ map-append (write_of page_size) (firsts (is_due before pages) xs) (firsts (due_after (is_due before pages) xs) ys)
-    ∙ ap (λ (ops : List Operation). restores page_size (is_due before pages) xs ++ ops) (sym next) in
+    restores-append page_size pages xs ys before between a.due in
     record {
       adds = subst (Adds first last) (sym split) (Adds-append first middle last _ _ a.adds b.adds);
       count = rw split (rw (length-append (restores page_size (is_due before pages) xs) (restores page_size (is_due between pages) ys)) (omega (arith, a.count, b.count)));

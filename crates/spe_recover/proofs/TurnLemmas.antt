@@ -92,6 +92,12 @@ hot_from-next : (content : Content) (page_size id count : ℕ) → 0 < count
 hot_from-next content page_size id zero some = absurd (omega arith)
 hot_from-next content page_size id (suc n) some = let back : suc n - 1 ≡ n = omega arith in rw back refl
 
+pub hot_step : (content : Content) (page_size id : ℕ) → id < 16
+    → hot_from content page_size id (16 - id) ≡ hot_records page_size (journal_of content id) ++ hot_from content page_size (id + 1) (16 - (id + 1))
+hot_step content page_size id few =
+    let same : 16 - id - 1 ≡ 16 - (id + 1) = omega arith in
+    hot_from-next content page_size id (16 - id) (omega arith) ∙ ap (λ (n : ℕ). hot_records page_size (journal_of content id) ++ hot_from content page_size (id + 1) n) same
+
 hot_from-none : (content : Content) (page_size id count : ℕ) → count ≡ 0 → hot_from content page_size id count ≡ []
 hot_from-none content page_size id count none = rw none refl
 
@@ -104,10 +110,7 @@ all_turn (Some h) now next page_size pages id before between later made some few
     let content = present h in
     let here : Restored page_size pages (hot_records page_size (journal_of content id)) now next between later some =
     told_before (Some h) now id (λ journal. Restored page_size pages (hot_records page_size journal) now next between later some) stays one in
-    let same : 16 - id - 1 ≡ 16 - (id + 1) = omega arith in
-    let step : hot_from content page_size id (16 - id) ≡ hot_records page_size (journal_of content id) ++ hot_from content page_size (id + 1) (16 - (id + 1)) =
-    hot_from-next content page_size id (16 - id) (omega arith)
-    ∙ ap (λ (n : ℕ). hot_records page_size (journal_of content id) ++ hot_from content page_size (id + 1) n) same in
+    let step = hot_step content page_size id few in
     let both : Restored page_size pages (hot_records page_size (journal_of content id) ++ hot_from content page_size (id + 1) (16 - (id + 1))) now last between after (some + more) =
     Restored-append page_size pages (hot_records page_size (journal_of content id)) (hot_from content page_size (id + 1) (16 - (id + 1))) now next last between later after some more here rest in
     let sum : made + (some + more) ≡ made + some + more = omega arith in

@@ -6,5 +6,6 @@ pub mod Survey
 pub mod Known
 pub mod Rule
 pub mod Restored
+pub mod Cuts
 pub mod Written
 pub mod Recovered

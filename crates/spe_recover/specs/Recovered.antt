@@ -1,5 +1,5 @@
 -- What recovery answers.
-use Rattle.std.specs.Prelude.{◌≡◌, ℕ, ◌<◌, ◌≤◌, ◌⊎◌, Bool, true, false, not, ◌&&◌, ◌==◌, List, [], length, Option, Some, None, Result, Ok, Err, IfErr, if◌then◌else◌}
+use Rattle.std.specs.Prelude.{◌≡◌, ℕ, ◌<◌, ◌≤◌, ◌⊎◌, Bool, true, false, not, ◌&&◌, ◌==◌, List, [], length, map, Option, Some, None, Result, Ok, Err, IfErr, if◌then◌else◌}
 use Rattle.std.specs.Int.{bit_at}
 use Rattle.spe_model.specs.declared.header.Header.{Header}
 use Rattle.spe_model.specs.declared.recovery.RecoverFault.{RecoverFault}
@@ -8,7 +8,9 @@ use Rattle.spe_model.specs.Content.{Content}
 use Rattle.spe_model.specs.Faults.{Rose}
 use Rattle.spe_model.specs.Header.{is_size_valid}
 use Rattle.spe_model.specs.Journal.{is_hot}
-use Rattle.spe_model.specs.Recovery.{file_page_size, journal_of, recovered, recovered_header}
+use Rattle.spe_model.specs.Recovery.{file_page, file_page_size, journal_of, pages_to, recovered, recovered_header}
+use Rattle.spe_model.specs.Rollback.{rule_of}
+use Rattle.spe_model.specs.Trace.{Operation}
 use Rattle.spe_recover.specs.declared.want.Want.{Want}
 use Rattle.spe_recover.specs.declared.want.Want.TheVariants.{Any, Prepared}
 
@@ -67,3 +69,16 @@ pub record HasCauses {X : Type 0} (reads reads_now ops ops_now : ℕ) (result : 
 -- no journal has bytes
 abbrev pub HasNoJournals : Content → Type 0
 HasNoJournals content = (id : ℕ) → id < 16 → journal_of content id ≡ []
+
+-- the recovered pages of one content are the first pages of the other's file
+abbrev pub AreInFile : ℕ → (content now : Content) → Type 0
+AreInFile count content now = recovered content ≡ Ok (map (file_page now) (pages_to count))
+
+-- the operations of the rule, where there are recovered pages, and else none
+abbrev pub rollback_to : Content → Result (List (List ℕ)) RecoverFault → List Operation
+rollback_to content (Ok pages) = rule_of content (length pages)
+rollback_to content (Err fault) = []
+
+-- the operations that roll a content back
+abbrev pub rollback_of : Content → List Operation
+rollback_of content = rollback_to content (recovered content)

@@ -1,12 +1,12 @@
 -- What is known once all was read that recovery rests on.
-use Rattle.std.specs.Prelude.{◌≡◌, ℕ, ◌<◌, ◌≤◌, List, take, map, length, Bool, true, false, is_some, Result, Ok, Err}
+use Rattle.std.specs.Prelude.{◌≡◌, ℕ, ◌*◌, ◌^◌, ◌<◌, ◌≤◌, List, take, map, length, Bool, true, false, is_some, Result, Ok, Err}
 use Rattle.std.specs.Ordering.{nat_cmp}
 use Rattle.std.specs.BTreeMap.{get}
 use Rattle.spe_model.specs.declared.file.FileNo.TheVariants.{Database}
 use Rattle.spe_model.specs.declared.recovery.RecoverFault.{RecoverFault}
 use Rattle.spe_model.specs.declared.recovery.RecoverFault.TheVariants as refusals
 use Rattle.spe_model.specs.Content.{Content, bytes_of}
-use Rattle.spe_model.specs.Header.{header_of}
+use Rattle.spe_model.specs.Header.{IsSized, header_of}
 use Rattle.spe_model.specs.Recovery.{image_of, pages_to, recovered_hot, recovered_sized, shared_page, other_size, file_page_size}
 use Rattle.spe_recover.specs.declared.seen.Seen.{Seen}
 use Rattle.spe_recover.specs.declared.survey.Survey.{Survey}
@@ -59,3 +59,10 @@ IsOfFiles refusals.Disk = ⊥
 IsOfFiles refusals.Memory = ⊥
 IsOfFiles refusals.NotPrepared = ⊥
 IsOfFiles fault = Unit {0}
+
+-- what is known is within the limits of a file
+pub record IsLimited (found : Survey) : Type 0 where
+  pub header : IsSized found.header
+  pub sized : found.header.page_size ≡ found.page_size
+  pub some : 1 ≤ found.pages
+  pub few : found.pages * found.page_size ≤ 2 ^ 30

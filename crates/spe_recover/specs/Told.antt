@@ -11,6 +11,10 @@ abbrev pub WhereTold : Option History → (Content → Type 0) → Type 0
 WhereTold None P = Unit {0}
 WhereTold (Some h) P = P (present h)
 
+-- P of the contents before and now, where the disk tells both
+abbrev pub WhereBothTold : (old new : Option History) → (Content → Content → Type 0) → Type 0
+WhereBothTold old new P = WhereTold old (λ content. WhereTold new (P content))
+
 -- P of the present content and what was answered, unless the reading stopped
 abbrev pub FindsTold : {X : Type 0} → Option History → Result X Stop → (Content → X → Type 0) → Type 0
 FindsTold told (Ok x) P = WhereTold told (λ content. P content x)

@@ -1,7 +1,8 @@
 //! Cutting the file and the journals.
 
-ghost use Rattle.std.specs.Prelude.{◌≡◌, ◌<◌, ◌≤◌, ◌+◌, ℕ, true, IfOk, OnOk};
+ghost use Rattle.std.specs.Prelude.{◌≡◌, ◌<◌, ◌≤◌, ◌+◌, ℕ, true, IfOk, OnOk, OnErr};
 ghost use Rattle.spe_model.specs.Rollback.{any_length, cuts_from, file_cut};
+ghost use Rattle.spe_recover.specs.Cuts.{MakesCut};
 ghost use Rattle.spe_recover.specs.Rule.{Does};
 ghost use Rattle.spe_recover.specs.Restored.{Stays, StaysFrom, HasEither};
 ghost use Rattle.spe_recover.specs.Told.{FindsTold, HasCause};
@@ -36,6 +37,7 @@ pub fn cut_file<D: Disk>(disk: &mut D, size: u64, end: u64) -> Result<u64, Stop>
     ensures cut { IfOk result (Does (D.told disk.old) (D.told disk.new) (λ content. file_cut size end)) }
     ensures few { IfOk result (λ made. made ≤ 1) }
     ensures stays { OnOk result (Stays (D.told disk.old) (D.told disk.new)) }
+    ensures stopped { OnErr result (MakesCut (D.told disk.old) (D.told disk.new) (λ content. file_cut size end)) }
     ensures attached { D.attached disk.new ≡ true }
     ensures readings { D.read_faults disk.new ≡ D.read_faults disk.old }
     ensures cause { HasCause (D.op_faults disk.old) (D.op_faults disk.new) result }
@@ -54,6 +56,7 @@ fn cut_journal<D: Disk>(disk: &mut D, id: u8) -> Result<u64, Stop>
     ensures cut { IfOk result (Does (D.told disk.old) (D.told disk.new) (λ content. cuts_from content id 1)) }
     ensures few { IfOk result (λ made. made ≤ 1) }
     ensures stays { OnOk result (StaysFrom (id + 1) (D.told disk.old) (D.told disk.new)) }
+    ensures stopped { OnErr result (MakesCut (D.told disk.old) (D.told disk.new) (λ content. cuts_from content id 1)) }
     ensures attached { D.attached disk.new ≡ true }
     ensures cause { HasEither (D.read_faults disk.old) (D.read_faults disk.new) (D.op_faults disk.old) (D.op_faults disk.new) result }
 {
@@ -69,6 +72,7 @@ pub fn cut_journals<D: Disk>(disk: &mut D) -> Result<u64, Stop>
     requires attached { D.attached disk.old ≡ true }
     ensures cut { IfOk result (Does (D.told disk.old) (D.told disk.new) (λ content. cuts_from content 0 16)) }
     ensures few { IfOk result (λ made. made ≤ 16) }
+    ensures stopped { OnErr result (MakesCut (D.told disk.old) (D.told disk.new) (λ content. cuts_from content 0 16)) }
     ensures attached { D.attached disk.new ≡ true }
     ensures cause { HasEither (D.read_faults disk.old) (D.read_faults disk.new) (D.op_faults disk.old) (D.op_faults disk.new) result }
 {

@@ -1,7 +1,7 @@
 //! The first bytes of a database file.
 
-ghost use Rattle.std.specs.Prelude.{◌≡◌, ◌≤◌, length, None, Some, IfOk, IfErr, OnOk};
-ghost use Rattle.spe_model.specs.Header.{page_size_at};
+ghost use Rattle.std.specs.Prelude.{◌≡◌, ◌≤◌, length, true, None, Some, IfOk, IfErr, OnOk};
+ghost use Rattle.spe_model.specs.Header.{is_page_size, page_size_at};
 ghost use Rattle.spe_recover.specs.Front.{only_front, fault_of};
 
 use byteorder::{BigEndian, ByteOrder};
@@ -52,6 +52,7 @@ pub fn page_size_of(bytes: &[u8]) -> Result<u32, HeaderFault>
     ensures fault { IfErr result (λ fault. fault_of bytes.now ≡ Some fault) }
     ensures none { OnOk result (fault_of bytes.now ≡ None) }
     ensures size { IfOk result (λ size. size ≡ page_size_at bytes.now) }
+    ensures power { IfOk result (λ size. is_page_size size ≡ true) }
     ensures low { IfOk result (λ size. 512 ≤ size) }
     ensures high { IfOk result (λ size. size ≤ 65536) }
     ensures long { OnOk result (100 ≤ length bytes.now) }

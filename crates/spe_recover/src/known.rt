@@ -3,9 +3,10 @@
 ghost use Rattle.std.specs.Prelude.{◌≡◌, ◌≤◌, true, take, length, IfOk};
 ghost use Rattle.spe_model.specs.declared.file.FileNo.TheVariants.{Database};
 ghost use Rattle.spe_model.specs.Content.{bytes_of};
+ghost use Rattle.spe_model.specs.Header.{is_page_size, page_size_at};
 ghost use Rattle.spe_model.specs.Recovery.{recovered};
 ghost use Rattle.spe_recover.specs.Known.{IsFront, Answers, HasFault};
-ghost use Rattle.spe_recover.specs.Survey.{sized_outcome};
+ghost use Rattle.spe_recover.specs.Survey.{IsLimited, sized_outcome};
 ghost use Rattle.spe_recover.specs.Told.{WhereTold, FindsTold, HasCause};
 
 use crate::front::page_size_of;
@@ -60,10 +61,14 @@ fn survey_sized<D: Disk>(
     requires attached { D.attached disk.old ≡ true }
     requires low { 512 ≤ page_size }
     requires high { page_size ≤ 65536 }
+    requires power { is_page_size page_size ≡ true }
+    requires paged { page_size ≡ page_size_at front.old }
     requires front { WhereTold (D.told disk.old) (IsFront page_size front.old) }
     ensures answers { WhereTold (D.told disk.old) (λ content. Answers content result (sized_outcome content)) }
     ensures low { IfOk result (λ known. 512 ≤ known.survey.page_size) }
     ensures high { IfOk result (λ known. known.survey.page_size ≤ 65536) }
+    ensures power { IfOk result (λ known. is_page_size known.survey.page_size ≡ true) }
+    ensures limits { IfOk result (λ known. IsLimited known.survey) }
     ensures same { D.told disk.new ≡ D.told disk.old }
     ensures attached { D.attached disk.new ≡ true }
     ensures operations { D.op_faults disk.new ≡ D.op_faults disk.old }
@@ -89,6 +94,8 @@ pub fn find_known<D: Disk>(alloc: Global, disk: &mut D) -> Result<Known, Recover
     ensures answers { WhereTold (D.told disk.old) (λ content. Answers content result (recovered content)) }
     ensures low { IfOk result (λ known. 512 ≤ known.survey.page_size) }
     ensures high { IfOk result (λ known. known.survey.page_size ≤ 65536) }
+    ensures power { IfOk result (λ known. is_page_size known.survey.page_size ≡ true) }
+    ensures limits { IfOk result (λ known. IsLimited known.survey) }
     ensures same { D.told disk.new ≡ D.told disk.old }
     ensures attached { D.attached disk.new ≡ true }
     ensures operations { D.op_faults disk.new ≡ D.op_faults disk.old }

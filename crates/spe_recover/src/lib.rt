@@ -1,7 +1,8 @@
 //! Rolls back all hot journals of a database together.
 //!
 //! `recover` answers exactly where a database has recovered pages, says what they are, and makes just
-//! the operations that write them back. A refusal changes nothing and names the first reason.
+//! the operations that write them back. A refusal changes nothing and names the first reason. Wherever
+//! recovery breaks off, by a failure or by a stop, the recovered pages are as before.
 #![tactic(auto)]
 
 mod clear;

@@ -1,12 +1,13 @@
 //! Writing saved pages back.
 
-ghost use Rattle.std.specs.Prelude.{◌≡◌, ◌≢◌, ◌≤◌, ◌*◌, ◌^◌, ◌<◌, ◌+◌, ◌∷◌, [], ℕ, true, length, IfOk, OnOk, drop, take};
+ghost use Rattle.std.specs.Prelude.{◌≡◌, ◌≢◌, ◌≤◌, ◌*◌, ◌^◌, ◌<◌, ◌+◌, ◌∷◌, [], ℕ, true, length, IfOk, OnOk, OnErr, drop, take};
 ghost use Rattle.std.specs.List.{flat_map};
 ghost use Rattle.spe_model.specs.Journal.{Saved, hot_records, numbers_from};
 ghost use Rattle.spe_model.specs.Recovery.{journal_of};
 ghost use Rattle.spe_disk.specs.Told.{Adds};
 ghost use Rattle.spe_journal.specs.Saved.{saved_in};
-ghost use Rattle.spe_model.specs.Rollback.{write_of, without};
+ghost use Rattle.spe_model.specs.Rollback.{restores, write_of, without};
+ghost use Rattle.spe_recover.specs.Cuts.{BreaksFirst, MakesCut};
 ghost use Rattle.spe_recover.specs.Restored.{is_due, Restored, RestoresPiece, Stays, HasEither};
 ghost use Rattle.spe_recover.specs.Told.{WhereTold, HasCause};
 
@@ -31,6 +32,7 @@ fn write_page<D: Disk>(disk: &mut D, page_size: u32, saved: &SavedPage<'_>) -> R
     requires high { page_size ≤ 65536 }
     requires whole { length saved.now.content.now ≡ page_size }
     ensures written { OnOk result (Adds (D.told disk.old) (D.told disk.new) (write_of page_size (record { page = saved.now.page; content = saved.now.content.now }) ∷ [])) }
+    ensures stopped { OnErr result (MakesCut (D.told disk.old) (D.told disk.new) (λ content. write_of page_size (record { page = saved.now.page; content = saved.now.content.now }) ∷ [])) }
     ensures attached { D.attached disk.new ≡ true }
     ensures readings { D.read_faults disk.new ≡ D.read_faults disk.old }
     ensures cause { HasCause (D.op_faults disk.old) (D.op_faults disk.new) result }
@@ -69,6 +71,7 @@ fn restore<D: Disk>(
     ensures restored { IfOk result (Restored page_size pages (record { page = saved.now.page; content = saved.now.content.now } ∷ []) (D.told disk.old) (D.told disk.new) holders.old holders.new) }
     ensures few { IfOk result (λ made. made ≤ 1) }
     ensures stays { OnOk result (Stays (D.told disk.old) (D.told disk.new)) }
+    ensures stopped { OnErr result (MakesCut (D.told disk.old) (D.told disk.new) (λ content. restores page_size (is_due holders.old pages) (record { page = saved.now.page; content = saved.now.content.now } ∷ []))) }
     ensures attached { D.attached disk.new ≡ true }
     ensures readings { D.read_faults disk.new ≡ D.read_faults disk.old }
     ensures cause { HasCause (D.op_faults disk.old) (D.op_faults disk.new) result }
@@ -95,6 +98,7 @@ fn restore_piece<D: Disk>(
     requires high { page_size ≤ 65536 }
     requires whole { length piece.now ≡ page_size + 8 }
     ensures restores { IfOk result (RestoresPiece nonce page_size pages piece.now (D.told disk.old) (D.told disk.new) holders.old holders.new) }
+    ensures stopped { OnErr result (WhereTold (D.told disk.old) (λ content. BreaksFirst nonce page_size pages piece.now (D.told disk.old) (D.told disk.new) holders.old)) }
     ensures attached { D.attached disk.new ≡ true }
     ensures readings { D.read_faults disk.new ≡ D.read_faults disk.old }
     ensures cause { HasCause (D.op_faults disk.old) (D.op_faults disk.new) result }
@@ -127,6 +131,7 @@ fn restore_records<D: Disk>(
         Restored page_size pages (saved_in nonce page_size (drop 512 (journal_of content id))) (D.told disk.old) (D.told disk.new) holders.old holders.new made)) }
     ensures few { IfOk result (λ made. made * 520 ≤ 2 ^ 64) }
     ensures stays { OnOk result (Stays (D.told disk.old) (D.told disk.new)) }
+    ensures stopped { OnErr result (MakesCut (D.told disk.old) (D.told disk.new) (λ content. restores page_size (is_due holders.old pages) (saved_in nonce page_size (drop 512 (journal_of content id))))) }
     ensures page { length buf.new ≡ page_size + 8 }
     ensures attached { D.attached disk.new ≡ true }
     ensures cause { HasEither (D.read_faults disk.old) (D.read_faults disk.new) (D.op_faults disk.old) (D.op_faults disk.new) result }
@@ -166,6 +171,7 @@ fn restore_journal<D: Disk>(
         Restored page_size pages (hot_records page_size (journal_of content id)) (D.told disk.old) (D.told disk.new) holders.old holders.new made)) }
     ensures few { IfOk result (λ made. made * 520 ≤ 2 ^ 64) }
     ensures stays { OnOk result (Stays (D.told disk.old) (D.told disk.new)) }
+    ensures stopped { OnErr result (MakesCut (D.told disk.old) (D.told disk.new) (λ content. restores page_size (is_due holders.old pages) (hot_records page_size (journal_of content id)))) }
     ensures page { length buf.new ≡ page_size + 8 }
     ensures attached { D.attached disk.new ≡ true }
     ensures cause { HasEither (D.read_faults disk.old) (D.read_faults disk.new) (D.op_faults disk.old) (D.op_faults disk.new) result }
@@ -197,6 +203,7 @@ pub fn restore_all<D: Disk>(
         Restored page_size pages (flat_map (λ i. hot_records page_size (journal_of content i)) (numbers_from 0 16)) (D.told disk.old) (D.told disk.new) holders.old holders.new made)) }
     ensures few { IfOk result (λ made. made ≤ 2 ^ 60) }
     ensures stays { OnOk result (Stays (D.told disk.old) (D.told disk.new)) }
+    ensures stopped { OnErr result (MakesCut (D.told disk.old) (D.told disk.new) (λ content. restores page_size (is_due holders.old pages) (flat_map (λ i. hot_records page_size (journal_of content i)) (numbers_from 0 16)))) }
     ensures attached { D.attached disk.new ≡ true }
     ensures cause { HasEither (D.read_faults disk.old) (D.read_faults disk.new) (D.op_faults disk.old) (D.op_faults disk.new) result }
 {

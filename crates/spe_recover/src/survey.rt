@@ -4,10 +4,10 @@ ghost use Rattle.std.specs.Prelude.{◌≡◌, ◌*◌, ◌^◌, ◌≤◌, ◌+
 ghost use Rattle.std.specs.Option.{option_map};
 ghost use Rattle.spe_model.specs.declared.file.FileNo.TheVariants.{Database};
 ghost use Rattle.spe_model.specs.Content.{Content, bytes_of};
-ghost use Rattle.spe_model.specs.Header.{header_of};
+ghost use Rattle.spe_model.specs.Header.{header_of, page_size_at};
 ghost use Rattle.spe_model.specs.Recovery.{file_page_size, image_of, recovered_to, recovered_with};
 ghost use Rattle.spe_recover.specs.Seen.{IsScanned};
-ghost use Rattle.spe_recover.specs.Survey.{AreHeld, Counts, Surveys, IsOfFiles, hot_outcome};
+ghost use Rattle.spe_recover.specs.Survey.{AreHeld, Counts, Surveys, IsLimited, IsOfFiles, hot_outcome};
 
 use crate::seen::Seen;
 use spe_model::{Header, RecoverFault, page_count};
@@ -54,10 +54,13 @@ fn are_held(seen: &Seen, whole: u64, count: u64) -> bool
 
 // The number of pages, where they are not too many and all there.
 fn count_pages(seen: &Seen, page_size: u32, count: u64, size: u64) -> Result<u32, RecoverFault>
-    requires { 512 ≤ page_size }
+    requires low { 512 ≤ page_size }
+    requires some { 1 ≤ count }
     ensures counts { (content : Content) → page_size ≡ file_page_size content → size ≡ length (bytes_of content Database) →
         IsScanned content page_size seen.now → Counts content count result (recovered_to content count) }
     ensures plain { IfErr result IsOfFiles }
+    ensures some { IfOk result (λ n. 1 ≤ n) }
+    ensures few { IfOk result (λ n. n * page_size ≤ 2 ^ 30) }
 {
     if is_too_large(count, page_size) {
         return Err(RecoverFault::TooLarge { pages: count });
@@ -73,12 +76,14 @@ fn count_pages(seen: &Seen, page_size: u32, count: u64, size: u64) -> Result<u32
 
 // The pages, given the first bytes of the recovered page 1.
 fn survey_with(seen: &Seen, front: &[u8], page_size: u32, size: u64) -> Result<Survey, RecoverFault>
-    requires { 512 ≤ page_size }
+    requires low { 512 ≤ page_size }
+    requires paged { page_size ≡ page_size_at front.now }
     ensures surveys { (content : Content) → page_size ≡ file_page_size content → size ≡ length (bytes_of content Database) →
         IsScanned content page_size seen.now → front.now ≡ take 100 (image_of content 1) →
         Surveys content result (recovered_with content (header_of (take 100 (image_of content 1)))) }
     ensures plain { IfErr result IsOfFiles }
     ensures same { IfOk result (λ found. found.page_size ≡ page_size) }
+    ensures limits { IfOk result IsLimited }
 {
     let header = match Header::read(front) {
         Ok(header) => header,
@@ -111,12 +116,14 @@ pub fn survey_hot(
     page_size: u32,
     size: u64,
 ) -> Result<Survey, RecoverFault>
-    requires { 512 ≤ page_size }
+    requires low { 512 ≤ page_size }
+    requires paged { page_size ≡ page_size_at front.old }
     ensures surveys { (content : Content) → page_size ≡ file_page_size content → size ≡ length (bytes_of content Database) →
         IsScanned content page_size seen.now → front.old ≡ take 100 (bytes_of content Database) →
         Surveys content result (hot_outcome content) }
     ensures plain { IfErr result IsOfFiles }
     ensures same { IfOk result (λ found. found.page_size ≡ page_size) }
+    ensures limits { IfOk result IsLimited }
 {
     if let Some(clash) = seen.clash {
         return Err(RecoverFault::Overlap {

@@ -1,7 +1,8 @@
 //! Writing all back.
 
-ghost use Rattle.std.specs.Prelude.{◌≡◌, ◌≤◌, ◌+◌, true, length, IfOk};
+ghost use Rattle.std.specs.Prelude.{◌≡◌, ◌≤◌, ◌+◌, true, length, IfOk, OnErr};
 ghost use Rattle.spe_model.specs.Rollback.{rule_of};
+ghost use Rattle.spe_recover.specs.Cuts.{MakesCut};
 ghost use Rattle.spe_recover.specs.Restored.{HasEither};
 ghost use Rattle.spe_recover.specs.Told.{WhereTold};
 ghost use Rattle.spe_recover.specs.Written.{IsReady, Makes, all_of};
@@ -27,6 +28,7 @@ fn write_files<D: Disk>(
     requires page { length buf.old ≡ survey.now.page_size + 8 }
     requires ready { WhereTold (D.told disk.old) (IsReady survey.now holders.old) }
     ensures made { IfOk result (Makes (D.told disk.old) (D.told disk.new) (λ content. all_of content survey.now.pages)) }
+    ensures stopped { OnErr result (MakesCut (D.told disk.old) (D.told disk.new) (λ content. all_of content survey.now.pages)) }
     ensures attached { D.attached disk.new ≡ true }
     ensures cause { HasEither (D.read_faults disk.old) (D.read_faults disk.new) (D.op_faults disk.old) (D.op_faults disk.new) result }
 {
@@ -50,6 +52,7 @@ pub fn write_back<D: Disk>(
     requires high { survey.now.page_size ≤ 65536 }
     requires ready { WhereTold (D.told disk.old) (IsReady survey.now holders.old) }
     ensures made { IfOk result (Makes (D.told disk.old) (D.told disk.new) (λ content. rule_of content survey.now.pages)) }
+    ensures stopped { OnErr result (MakesCut (D.told disk.old) (D.told disk.new) (λ content. rule_of content survey.now.pages)) }
     ensures attached { D.attached disk.new ≡ true }
     ensures cause { HasEither (D.read_faults disk.old) (D.read_faults disk.new) (D.op_faults disk.old) (D.op_faults disk.new) result }
 {

@@ -5,3 +5,7 @@ pub mod RowLemmas
 pub mod TablesLemmas
 pub mod ToldLemmas
 pub mod OutcomeLemmas
+pub mod SmallLemmas
+pub mod RefusedLemmas
+pub mod StopLemmas
+pub mod TextLemmas

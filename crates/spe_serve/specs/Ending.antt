@@ -1,13 +1,18 @@
 -- How a run of the program ends: what it printed, and its status.
 use Rattle.std.specs.Prelude.{◌≡◌, ℕ, ◌⊎◌, List, Option, Some, None, Result, Ok, Err, codes}
-use Rattle.spe_model.specs.Trace.{History}
+use Rattle.spe_model.specs.Trace.{Operation, History, IsCut, after, present}
+use Rattle.spe_disk.specs.Told.{Adds}
 use Rattle.spe_disk.specs.Sink.{Appends, AppendsFront}
 use Rattle.spe_serve.specs.declared.reply.Reply.{Reply}
+use Rattle.spe_model.specs.declared.recovery.RecoverFault.{RecoverFault}
+use Rattle.spe_model.specs.declared.recovery.RecoverFault.TheVariants as refusals
+use Rattle.spe_serve.specs.declared.reply.Reply.TheVariants as replies
 use Rattle.spe_serve.specs.declared.stop.Stop.{Stop}
 use Rattle.spe_serve.specs.declared.stop.Stop.TheVariants as stops
 use Rattle.spe_serve.specs.declared.outcome.Outcome.{Outcome}
 use Rattle.spe_serve.specs.declared.outcome.Outcome.TheVariants.{Answered, DiskFailed, NoMemory}
-use Rattle.spe_serve.specs.Reply.{IsReply, FitsWords, text_of, status_of, line}
+use Rattle.spe_serve.specs.Reply.{IsReply, FitsWords, rows_reply, text_of, status_of, line}
+use Rattle.spe_serve.specs.Words.{third}
 
 -- the answer that the content at attaching asks for, where it is told; else one that fits the words
 abbrev pub IsToldReply : List (List ℕ) → Option History → Reply → Type 0
@@ -26,6 +31,12 @@ outcome_of (Ok reply) = Answered reply
 outcome_of (Err stops.Disk) = DiskFailed
 outcome_of (Err stops.Memory) = NoMemory
 outcome_of (Err stops.NotBuilt) = NoMemory
+
+-- what recovery's refusal comes to
+abbrev pub refused_for : RecoverFault → Result Reply Stop
+refused_for refusals.Disk = Err stops.Disk
+refused_for refusals.Memory = Err stops.Memory
+refused_for fault = Ok (replies.Refused fault)
 
 abbrev pub outcome_text : Outcome → List ℕ
 outcome_text (Answered reply) = text_of reply
@@ -46,3 +57,17 @@ Prints text ending old new rose status = (Appends old new text × (status ≡ en
 abbrev pub Ends : List (List ℕ) → Option History → Type 0 → Option (List ℕ) → Option (List ℕ) → Type 0 → ℕ → Type 0
 Ends words told disk_rose old new sink_rose status =
     (outcome : Outcome) × IsOutcome words told disk_rose outcome × Prints (outcome_text outcome) (outcome_status outcome) old new sink_rose status
+
+-- the answer over what a stop leaves of the operations that were added is the answer over the content before
+abbrev pub AnswersStayTold : List (List ℕ) → History → List Operation → Type 0
+AnswersStayTold words h made = (cut : List Operation) → IsCut made cut → rows_reply (after (present h) cut) (third words) ≡ rows_reply (present h) (third words)
+
+pub record AnswerStays (words : List (List ℕ)) (h : History) (new : Option History) : Type 0 where
+  pub made : List Operation
+  pub adds : Adds (Some h) new made
+  pub stays : AnswersStayTold words h made
+
+-- the same, where the disk tells what was done
+abbrev pub AnswersStay : List (List ℕ) → Option History → Option History → Type 0
+AnswersStay words None new = Unit {0}
+AnswersStay words (Some h) new = AnswerStays words h new

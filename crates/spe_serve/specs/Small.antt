@@ -1,19 +1,20 @@
--- The contents that are understood so far: a file without free pages and without journals, whose schema table and
--- tables are one leaf page each, with rows of whole numbers, texts and NULL.
-use Rattle.std.specs.Prelude.{ℕ, zero, suc, ℤ, pos, ◌-◌, ◌*◌, ◌^◌, Bool, true, false, not, ◌&&◌, ◌==◌, nat_le, List, [], ◌∷◌, take, length, slice_set, slice_get, Option, Some, None, Result, Ok, Err, codes, if◌then◌else◌}
+-- The pages that are understood so far: none of them is free, the schema table and the tables are one leaf page each, and
+-- their rows have whole numbers, texts and NULL.
+use Rattle.std.specs.Prelude.{ℕ, ℤ, pos, ◌-◌, ◌*◌, Bool, true, false, not, ◌&&◌, ◌==◌, nat_le, List, [], ◌∷◌, take, length, slice_set, slice_get, Option, Some, None, Result, Ok, Err, codes, if◌then◌else◌}
 use Rattle.std.specs.List.{list_any, list_all}
 use Rattle.std.specs.Option.{option_map_or}
 use Rattle.std.specs.Str.{bytes_eq}
-use Rattle.spe_model.specs.declared.header.Header.{Header}
 use Rattle.spe_model.specs.declared.page.Cell.{Cell}
 use Rattle.spe_model.specs.declared.page.Kind.{Kind}
 use Rattle.spe_model.specs.declared.page.Kind.TheVariants.{TableLeaf, TableInterior, IndexLeaf, IndexInterior}
 use Rattle.spe_model.specs.declared.value.Value.{Value}
 use Rattle.spe_model.specs.declared.value.Value.TheVariants.{Null, Int, Text, Blob, Real8}
 use Rattle.spe_model.specs.declared.table.TableDef.{TableDef}
-use Rattle.spe_model.specs.declared.file.FileNo.TheVariants.{Journal}
+use Rattle.spe_model.specs.declared.file.FileNo.TheVariants.{Database as TheDatabase}
 use Rattle.spe_model.specs.Content.{Content, bytes_of, filled}
-use Rattle.spe_model.specs.Header.{page_count_of}
+use Rattle.spe_model.specs.Big.{u32_at}
+use Rattle.spe_model.specs.Paging.{Paging}
+use Rattle.spe_model.specs.Settled.{header_in, page_in}
 use Rattle.spe_model.specs.Cell.{◌>>=◌}
 use Rattle.spe_model.specs.Page.{page_at}
 use Rattle.spe_model.specs.Record.{record_of}
@@ -71,13 +72,9 @@ leaf_of page at = do
   read ← ok_of (page_at page at)
   if is_table_leaf read.kind then Some read.cells else None
 
--- page p of a file without its reserved bytes, with zeros past the file's end
-abbrev pub page_bytes : Header → List ℕ → ℕ → List ℕ
-page_bytes h file p = take (h.page_size - h.reserved) (filled file ((p - 1) * h.page_size) h.page_size)
-
--- the cells of page p of a file where that is a table leaf
-abbrev pub leaf_cells : Header → List ℕ → ℕ → ℕ → Option (List Cell)
-leaf_cells h file p at = leaf_of (page_bytes h file p) at
+-- the cells of page p where that is a table leaf
+abbrev pub leaf_cells : (usable : ℕ) → Paging → (page at : ℕ) → Option (List Cell)
+leaf_cells usable pages page at = leaf_of (take usable (pages page)) at
 
 abbrev pub text_of : Value → Option (List ℕ)
 text_of (Text t) = Some t
@@ -125,41 +122,39 @@ unfoldable pub are_apart : ℕ → List Entry → Bool
 are_apart count entries = are_distinct entry_name entries && are_different entry_root entries && list_all (is_among count) entries
 
 -- the table of an entry with its rows
-unfoldable pub object_of : Header → List ℕ → Entry → Option (ℤ × Object)
-object_of h file e = do
-  cells ← leaf_cells h file e.root 0
+unfoldable pub object_of : (usable : ℕ) → Paging → Entry → Option (ℤ × Object)
+object_of usable pages e = do
+  cells ← leaf_cells usable pages e.root 0
   rows ← map_all (row_of e.table) cells
   Some (e.rowid, Table e.table rows)
 
-abbrev pub most_bytes : ℕ
-most_bytes = 2 ^ 30
-
--- no journal has bytes
-abbrev pub journals_from : ℕ → Content → Bool
-journals_from zero content = true
-journals_from (suc n) content = (length (bytes_of content (Journal n)) == 0) && journals_from n content
-
-unfoldable pub has_no_journals : Content → Bool
-has_no_journals content = journals_from 16 content
-
--- a file of so many bytes has no free pages, all its pages, and no more bytes in them than the limit
-unfoldable pub is_whole : Header → ℕ → Bool
-is_whole h size =
-    (h.first_free == 0) && (h.free_count == 0) && nat_le (page_count_of h size * h.page_size) most_bytes
-    && nat_le (page_count_of h size * h.page_size) size
+-- page 1 names no free pages
+unfoldable pub has_no_free : List ℕ → Bool
+has_no_free page = (u32_at page 32 == 0) && (u32_at page 36 == 0)
 
 -- the tables of the schema
-unfoldable pub entries_of : Header → List ℕ → Option (List Entry)
-entries_of h file = do
-  cells ← leaf_cells h file 1 100
+unfoldable pub entries_of : (usable count : ℕ) → Paging → Option (List Entry)
+entries_of usable count pages = do
+  cells ← leaf_cells usable pages 1 100
   entries ← map_all entry_of cells
-  if are_apart (page_count_of h (length file)) entries then Some entries else None
+  if are_apart count entries then Some entries else None
 
 -- the tables with their rows
-abbrev pub objects_of : Header → List ℕ → List Entry → Option Database
-objects_of h file entries = map_all (object_of h file) entries
+abbrev pub objects_of : (usable : ℕ) → Paging → List Entry → Option Database
+objects_of usable pages entries = map_all (object_of usable pages) entries
 
--- the database that a small content holds, or None where it is not small
-unfoldable pub small_database : Content → Header → List ℕ → Option Database
-small_database content h file =
-    if not (has_no_journals content && is_whole h (length file)) then None else (entries_of h file >>= objects_of h file)
+-- the database that so many pages stand for, or None where they are not small
+unfoldable pub small_database : (usable count : ℕ) → Paging → Option Database
+small_database usable count pages = if not (has_no_free (pages 1)) then None else (entries_of usable count pages >>= objects_of usable pages)
+
+-- the pages of a file as they are read, with zeros past its end
+abbrev pub file_pages : (page_size : ℕ) → Content → Paging
+file_pages page_size content page = filled (bytes_of content TheDatabase) ((page - 1) * page_size) page_size
+
+-- how many bytes of a page the format uses
+abbrev pub usable_in : List (List ℕ) → ℕ
+usable_in pages = (header_in pages).page_size - (header_in pages).reserved
+
+-- the database that these pages stand for
+abbrev pub small_of : List (List ℕ) → Option Database
+small_of pages = small_database (usable_in pages) (length pages) (page_in pages)

@@ -1,5 +1,5 @@
 -- Answers that come from a disk.
-use Rattle.std.specs.Prelude.{◌≡◌, ℕ, ◌≤◌, Option, Some, None, Result, Ok, Err, IfErr}
+use Rattle.std.specs.Prelude.{◌≡◌, ℕ, ◌≤◌, ◌⊎◌, Option, Some, None, Result, Ok, Err, IfErr}
 use Rattle.spe_model.specs.Content.{Content}
 use Rattle.spe_model.specs.Trace.{History, present}
 use Rattle.spe_model.specs.Faults.{Rose}
@@ -40,3 +40,14 @@ IsCausedBy before now NotBuilt = Unit {0}
 pub record HasCause {T : Type 0} (before now : ℕ) (result : Result T Stop) : Type 0 where
   pub later : before ≤ now
   pub failed : IfErr result (IsCausedBy before now)
+
+abbrev pub IsCausedByEither : (reads reads_now ops ops_now : ℕ) → Stop → Type 0
+IsCausedByEither reads reads_now ops ops_now Disk = Rose reads reads_now ⊎ Rose ops ops_now
+IsCausedByEither reads reads_now ops ops_now Memory = Unit {0}
+IsCausedByEither reads reads_now ops ops_now NotBuilt = Unit {0}
+
+-- two counts of faults never fall, and one has risen where the disk failed
+pub record HasCauses {T : Type 0} (reads reads_now ops ops_now : ℕ) (result : Result T Stop) : Type 0 where
+  pub reads_later : reads ≤ reads_now
+  pub ops_later : ops ≤ ops_now
+  pub failed : IfErr result (IsCausedByEither reads reads_now ops ops_now)

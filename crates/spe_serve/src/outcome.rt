@@ -7,8 +7,9 @@ use crate::reply::Reply;
 use crate::small::small_rows;
 use crate::stop::Stop;
 use crate::words::rows_words;
-use spe_disk::{Disk, Failed, FileNo};
-use spe_model::{Header, HeaderFault, Rows, Text};
+use spe_disk::Disk;
+use spe_model::{RecoverFault, Recovered, Rows, Text};
+use spe_recover::{Want, recover};
 use std::alloc::Global;
 
 /// What there is to print.
@@ -22,30 +23,13 @@ pub enum Outcome {
     NoMemory,
 }
 
-ghost use Rattle.std.specs.Prelude.{◌≤◌, Some, IfOk, take};
-ghost use Rattle.spe_model.specs.Content.{bytes_of};
-ghost use Rattle.spe_model.specs.Header.{header_of, IsSized};
-ghost use Rattle.spe_model.specs.Faults.{HasCause as HasDiskCause};
-ghost use Rattle.spe_model.specs.declared.file.FileNo.TheVariants.{Database};
-ghost use Rattle.spe_serve.specs.Small.{small_database};
-ghost use Rattle.spe_serve.specs.Reply.{reply_of_rows, reply_of_database, reply_of_file, IsAboutRows};
-ghost use Rattle.spe_serve.specs.Stop.{WhereTold, HasCause};
-ghost use Rattle.spe_serve.specs.Ending.{IsOutcome, outcome_of};
-
-// The header of the database that is attached, or its fault.
-fn read_header<D: Disk>(disk: &mut D) -> Result<Result<Header, HeaderFault>, Failed>
-    requires { D.attached disk.old ≡ true }
-    ensures header { IfOk result (λ read. WhereTold (D.told disk.old) (λ content. read ≡ header_of (take 100 (bytes_of content Database)))) }
-    ensures sized { IfOk result (λ read. IfOk read IsSized) }
-    ensures same { D.told disk.new ≡ D.told disk.old }
-    ensures attached { D.attached disk.new ≡ true }
-    ensures operations { D.op_faults disk.new ≡ D.op_faults disk.old }
-    ensures cause { HasDiskCause (D.read_faults disk.old) (D.read_faults disk.new) result }
-{
-    let mut front = [0u8; 100];
-    let count = disk.read_at(FileNo::Database, 0, &mut front)?;
-    Ok(Header::read(&front[..count]))
-}
+ghost use Rattle.std.specs.Prelude.{◌≤◌, ◌⊎◌, ◌-◌, length, IfOk};
+ghost use Rattle.spe_model.specs.Recovery.{recovered};
+ghost use Rattle.spe_model.specs.Settled.{IsWithinLimits, LeavesPages};
+ghost use Rattle.spe_serve.specs.Small.{file_pages, small_database};
+ghost use Rattle.spe_serve.specs.Reply.{reply_of_rows, reply_of_database, reply_of_recovered, IsAboutRows};
+ghost use Rattle.spe_serve.specs.Stop.{WhereTold, HasCause, HasCauses};
+ghost use Rattle.spe_serve.specs.Ending.{IsOutcome, outcome_of, refused_for};
 
 fn reply_of(found: Option<Rows>) -> Reply
     ensures rows { result ≡ reply_of_rows found }
@@ -57,52 +41,60 @@ fn reply_of(found: Option<Rows>) -> Reply
     }
 }
 
-// The answer about a table of the database with this header.
+// The answer about a table of the database that the files hold, nothing being left to roll back.
 fn table_reply<D: Disk>(
     alloc: Global,
     disk: &mut D,
-    header: &Header,
+    found: &Recovered,
     name: &[u8],
 ) -> Result<Reply, Stop>
     requires attached { D.attached disk.old ≡ true }
-    requires sized { IsSized header.now }
-    ensures reply { IfOk result (λ reply. WhereTold (D.told disk.old) (λ content. reply_of_database name.now (small_database content header.now (bytes_of content Database)) ≡ reply)) }
+    requires limits { IsWithinLimits found.now }
+    ensures reply { IfOk result (λ reply. WhereTold (D.told disk.old) (λ content. reply_of_database name.now (small_database (found.now.page_size - found.now.reserved) found.now.pages (file_pages found.now.page_size content)) ≡ reply)) }
     ensures about { IfOk result IsAboutRows }
     ensures same { D.told disk.new ≡ D.told disk.old }
-    ensures attached { D.attached disk.new ≡ true }
     ensures operations { D.op_faults disk.new ≡ D.op_faults disk.old }
     ensures cause { HasCause (D.read_faults disk.old) (D.read_faults disk.new) result }
 {
-    match small_rows(alloc, disk, header, name) {
-        Ok(found) => Ok(reply_of(found)),
+    match small_rows(alloc, disk, found, name) {
+        Ok(rows) => Ok(reply_of(rows)),
         Err(Stop::NotBuilt) => Ok(Reply::NotBuilt),
         Err(stop) => Err(stop),
     }
 }
 
-// The answer about a table of the database that is attached.
+// What becomes of the reason why files are not recovered.
+fn refused(fault: RecoverFault) -> Result<Reply, Stop>
+    ensures { result ≡ refused_for fault }
+{
+    match fault {
+        RecoverFault::Disk => Err(Stop::Disk),
+        RecoverFault::Memory => Err(Stop::Memory),
+        _ => Ok(Reply::Refused(fault)),
+    }
+}
+
+// Recovers the files that are attached, and gives the answer about a table.
 fn rows_reply<D: Disk>(alloc: Global, disk: &mut D, name: &[u8]) -> Result<Reply, Stop>
     requires { D.attached disk.old ≡ true }
-    ensures reply { IfOk result (λ reply. WhereTold (D.told disk.old) (λ content. reply_of_file content name.now (Some (bytes_of content Database)) ≡ reply)) }
+    ensures reply { IfOk result (λ reply. WhereTold (D.told disk.old) (λ content. reply_of_recovered name.now (recovered content) ≡ reply)) }
     ensures about { IfOk result IsAboutRows }
-    ensures same { D.told disk.new ≡ D.told disk.old }
-    ensures attached { D.attached disk.new ≡ true }
-    ensures operations { D.op_faults disk.new ≡ D.op_faults disk.old }
-    ensures cause { HasCause (D.read_faults disk.old) (D.read_faults disk.new) result }
+    ensures leaves { LeavesPages (D.told disk.old) (D.told disk.new) }
+    ensures cause { HasCauses (D.read_faults disk.old) (D.read_faults disk.new) (D.op_faults disk.old) (D.op_faults disk.new) result }
 {
-    match read_header(disk)? {
-        Ok(header) => table_reply(alloc, disk, &header, name),
-        Err(fault) => Ok(Reply::Header(fault)),
+    match recover(alloc, disk, Want::Any) {
+        Ok(found) => table_reply(alloc, disk, &found, name),
+        Err(fault) => refused(fault),
     }
 }
 
 // What there is to print of these words.
 pub fn carry_out<D: Disk>(alloc: Global, words: &[Text], disk: &mut D) -> Outcome
     requires { D.attached disk.old ≡ false }
-    ensures outcome { IsOutcome words.now (D.told disk.old) (Rose (D.read_faults disk.old) (D.read_faults disk.new)) result }
-    ensures same { D.told disk.new ≡ D.told disk.old }
-    ensures operations { D.op_faults disk.new ≡ D.op_faults disk.old }
-    ensures later { D.read_faults disk.old ≤ D.read_faults disk.new }
+    ensures outcome { IsOutcome words.now (D.told disk.old) (Rose (D.read_faults disk.old) (D.read_faults disk.new) ⊎ Rose (D.op_faults disk.old) (D.op_faults disk.new)) result }
+    ensures leaves { LeavesPages (D.told disk.old) (D.told disk.new) }
+    ensures reads_later { D.read_faults disk.old ≤ D.read_faults disk.new }
+    ensures ops_later { D.op_faults disk.old ≤ D.op_faults disk.new }
 {
     let Some((database, table)) = rows_words(words) else {
         return Outcome::Answered(Reply::Words);

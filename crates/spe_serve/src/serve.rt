@@ -2,7 +2,8 @@
 
 ghost use Rattle.std.specs.Prelude.{◌≡◌, ◌⊎◌, ◌≤◌, [], false};
 ghost use Rattle.spe_model.specs.Faults.{Rose};
-ghost use Rattle.spe_serve.specs.Ending.{Ends, Prints, outcome_text, outcome_status};
+ghost use Rattle.spe_model.specs.Settled.{LeavesPages};
+ghost use Rattle.spe_serve.specs.Ending.{AnswersStay, Ends, Prints, outcome_text, outcome_status};
 
 use crate::outcome::{Outcome, carry_out};
 use crate::reply::{status, text};
@@ -39,10 +40,9 @@ fn put<W: Sink>(out: &mut W, text: &[u8], status: u8) -> u8
 // Carries out some words and prints what there is to print.
 fn run<D: Disk, W: Sink>(alloc: Global, words: &Words, disk: &mut D, out: &mut W) -> u8
     requires { D.attached disk.old ≡ false }
-    ensures ends { Ends words.now (D.told disk.old) (Rose (D.read_faults disk.old) (D.read_faults disk.new)) (W.taken out.old) (W.taken out.new) (Rose (W.faults out.old) (W.faults out.new)) result }
-    ensures fault { result ≡ 3 → Rose (D.read_faults disk.old) (D.read_faults disk.new) ⊎ Rose (W.faults out.old) (W.faults out.new) }
-    ensures same { D.told disk.new ≡ D.told disk.old }
-    ensures operations { D.op_faults disk.new ≡ D.op_faults disk.old }
+    ensures ends { Ends words.now (D.told disk.old) (Rose (D.read_faults disk.old) (D.read_faults disk.new) ⊎ Rose (D.op_faults disk.old) (D.op_faults disk.new)) (W.taken out.old) (W.taken out.new) (Rose (W.faults out.old) (W.faults out.new)) result }
+    ensures fault { result ≡ 3 → (Rose (D.read_faults disk.old) (D.read_faults disk.new) ⊎ Rose (D.op_faults disk.old) (D.op_faults disk.new)) ⊎ Rose (W.faults out.old) (W.faults out.new) }
+    ensures leaves { LeavesPages (D.told disk.old) (D.told disk.new) }
 {
     match carry_out(alloc, words.as_slice(), disk) {
         Outcome::Answered(reply) => match text(alloc, &reply) {
@@ -57,8 +57,8 @@ fn run<D: Disk, W: Sink>(alloc: Global, words: &Words, disk: &mut D, out: &mut W
 /// Does all that the program does with the words of its command line, the program's own name left
 /// out.
 ///
-/// So far the one command is `rows DATABASE TABLE`, which prints the rows of a table. The disk is
-/// read and never written.
+/// So far the one command is `rows DATABASE TABLE`, which rolls back what hot journals there are and
+/// prints the rows of a table.
 pub fn spe<R: Threads + Wait + Sync, D: Disk + Send, C: Scripts, W: Sink, G: Gate + Sync>(
     _rt: &R,
     alloc: Global,
@@ -71,12 +71,12 @@ pub fn spe<R: Threads + Wait + Sync, D: Disk + Send, C: Scripts, W: Sink, G: Gat
     requires { D.attached disk ≡ false }
 
     // The text and the status are those of an outcome of the words.
-    ensures ends { Ends words (D.told disk) (Rose (D.read_faults disk) (D.read_faults result.1)) (W.taken out.old) (W.taken out.new) (Rose (W.faults out.old) (W.faults out.new)) result.0.status }
-    ensures fault { result.0.status ≡ 3 → Rose (D.read_faults disk) (D.read_faults result.1) ⊎ Rose (W.faults out.old) (W.faults out.new) }
+    ensures ends { Ends words (D.told disk) (Rose (D.read_faults disk) (D.read_faults result.1) ⊎ Rose (D.op_faults disk) (D.op_faults result.1)) (W.taken out.old) (W.taken out.new) (Rose (W.faults out.old) (W.faults out.new)) result.0.status }
+    ensures fault { result.0.status ≡ 3 → (Rose (D.read_faults disk) (D.read_faults result.1) ⊎ Rose (D.op_faults disk) (D.op_faults result.1)) ⊎ Rose (W.faults out.old) (W.faults out.new) }
 
-    // No operation is made or tried.
-    ensures same { D.told result.1 ≡ D.told disk }
-    ensures operations { D.op_faults result.1 ≡ D.op_faults disk }
+    // Wherever a stop cuts what was done, the recovered pages are as before, and so is the answer.
+    ensures leaves { LeavesPages (D.told disk) (D.told result.1) }
+    ensures stops { AnswersStay words (D.told disk) (D.told result.1) }
     ensures order { result.0.order ≡ [] }
 {
     let status = run(alloc, &words, &mut disk, out);

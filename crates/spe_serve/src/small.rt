@@ -1,51 +1,51 @@
 //! Databases of the kind that is read so far.
 
-ghost use Rattle.std.specs.Prelude.{◌≡◌, ◌⊎◌, ◌≤◌, ◌*◌, ◌^◌, ◌==◌, true, length, is_some, IfOk, IfSome};
+ghost use Rattle.std.specs.Prelude.{◌≡◌, ◌⊎◌, ◌≤◌, ◌-◌, ◌^◌, true, length, take, IfOk, OnOk};
 ghost use Rattle.std.specs.Option.{option_map};
 ghost use Rattle.std.specs.List.{list_all};
-ghost use Rattle.spe_model.specs.Content.{bytes_of, IsFile};
-ghost use Rattle.spe_model.specs.Header.{IsSized, page_count_of};
 ghost use Rattle.spe_model.specs.Faults.{HasCause as HasDiskCause};
-ghost use Rattle.spe_model.specs.declared.file.FileNo.TheVariants.{Database};
 ghost use Rattle.spe_model.specs.Database.{Table};
-ghost use Rattle.spe_serve.specs.Small.{leaf_cells, object_of, objects_of, has_no_journals, is_whole, is_among, small_database};
+ghost use Rattle.spe_model.specs.Settled.{IsWithinLimits};
+ghost use Rattle.spe_serve.specs.Miss.{Finds};
+ghost use Rattle.spe_serve.specs.Small.{file_pages, has_no_free, leaf_cells, object_of, objects_of, entries_of, is_among, small_database};
 ghost use Rattle.spe_serve.specs.Reply.{rows_in};
 ghost use Rattle.spe_serve.specs.Stop.{WhereTold, ReadsTold, HasCause};
 ghost use Rattle.spe_serve.specs.Kept.{kept};
 
 use crate::definition::agree;
+use crate::miss::Miss;
 use crate::row::{leaf, rows};
 use crate::schema::{Entry, are_apart, entries};
 use crate::stop::Stop;
+use byteorder::{BigEndian, ByteOrder};
 use spe_disk::{Disk, Failed, FileNo};
-use spe_model::{Cells, Header, Rows, page_count};
+use spe_model::{Recovered, Rows};
 use std::alloc::Global;
 
-// The cells of a page that is a table leaf, whose header begins at `at`.
-fn read_leaf<D: Disk>(
-    alloc: Global,
-    disk: &mut D,
-    header: &Header,
-    number: u64,
-    at: usize,
-    buf: &mut [u8],
-) -> Result<Cells, Stop>
+// How many bytes of a page the format uses.
+fn usable_of(found: &Recovered) -> usize
+    requires { IsWithinLimits found.now }
+    ensures value { result ≡ found.now.page_size - found.now.reserved }
+    ensures low { 480 ≤ result }
+    ensures high { result ≤ found.now.page_size }
+{
+    (found.page_size - u32::from(found.reserved)) as usize
+}
+
+// Reads a page, with zeros past the file's end.
+fn read_page<D: Disk>(disk: &mut D, number: u64, buf: &mut [u8]) -> Result<(), Failed>
     requires attached { D.attached disk.old ≡ true }
-    requires sized { IsSized header.now }
     requires above { 1 ≤ number }
     requires below { number ≤ 2 ^ 30 }
-    requires at { (at ≡ 0) ⊎ (at ≡ 100) }
-    requires page { length buf.old ≡ header.now.page_size }
-    ensures cells { ReadsTold (λ c. c) (D.told disk.old) result (λ content. leaf_cells header.now (bytes_of content Database) number at) }
+    requires size { length buf.old ≤ 65536 }
+    ensures page { OnOk result (WhereTold (D.told disk.old) (λ content. buf.new ≡ file_pages (length buf.old) content number)) }
     ensures same { D.told disk.new ≡ D.told disk.old }
     ensures attached { D.attached disk.new ≡ true }
     ensures operations { D.op_faults disk.new ≡ D.op_faults disk.old }
-    ensures cause { HasCause (D.read_faults disk.old) (D.read_faults disk.new) result }
+    ensures cause { HasDiskCause (D.read_faults disk.old) (D.read_faults disk.new) result }
 {
-    let place = (number - 1) * u64::from(header.page_size);
-    let _ = disk.read_at(FileNo::Database, place, buf)?;
-    let usable = header.page_size - u32::from(header.reserved);
-    Ok(leaf(alloc, buf, at, usable as usize)?)
+    let _ = disk.read_at(FileNo::Database, (number - 1) * buf.len() as u64, buf)?;
+    Ok(())
 }
 
 // The rows of a table.
@@ -53,22 +53,24 @@ fn read_leaf<D: Disk>(
 fn read_table<D: Disk>(
     alloc: Global,
     disk: &mut D,
-    header: &Header,
+    usable: usize,
     entry: &Entry,
     buf: &mut [u8],
 ) -> Result<Rows, Stop>
     requires attached { D.attached disk.old ≡ true }
-    requires sized { IsSized header.now }
     requires above { 1 ≤ entry.now.root }
     requires below { entry.now.root ≤ 2 ^ 30 }
-    requires page { length buf.old ≡ header.now.page_size }
-    ensures rows { ReadsTold (λ rows. (entry.now.rowid, Table entry.now.table rows)) (D.told disk.old) result (λ content. object_of header.now (bytes_of content Database) entry.now) }
+    requires low { 480 ≤ usable }
+    requires high { usable ≤ length buf.old }
+    requires page { length buf.old ≤ 65536 }
+    ensures rows { ReadsTold (λ rows. (entry.now.rowid, Table entry.now.table rows)) (D.told disk.old) result (λ content. object_of usable (file_pages (length buf.old) content) entry.now) }
     ensures same { D.told disk.new ≡ D.told disk.old }
     ensures attached { D.attached disk.new ≡ true }
     ensures operations { D.op_faults disk.new ≡ D.op_faults disk.old }
     ensures cause { HasCause (D.read_faults disk.old) (D.read_faults disk.new) result }
 {
-    let cells = read_leaf(alloc, disk, header, entry.root, 0, buf)?;
+    read_page(disk, entry.root, buf)?;
+    let cells = leaf(alloc, buf, 0, usable)?;
     Ok(rows(alloc, &entry.table, cells.as_slice())?)
 }
 
@@ -87,18 +89,19 @@ fn keep(found: Option<Rows>, rows: Rows, is_wanted: bool) -> Option<Rows>
 fn read_tables<D: Disk>(
     alloc: Global,
     disk: &mut D,
-    header: &Header,
+    usable: usize,
     entries: &[Entry],
     name: &[u8],
     buf: &mut [u8],
     count: u64,
 ) -> Result<Option<Rows>, Stop>
     requires attached { D.attached disk.old ≡ true }
-    requires sized { IsSized header.now }
     requires among { list_all (is_among count) entries.now ≡ true }
     requires few { count ≤ 2 ^ 30 }
-    requires page { length buf.old ≡ header.now.page_size }
-    ensures rows { ReadsTold (λ rows. rows) (D.told disk.old) result (λ content. option_map (rows_in name.now) (objects_of header.now (bytes_of content Database) entries.now)) }
+    requires low { 480 ≤ usable }
+    requires high { usable ≤ length buf.old }
+    requires page { length buf.old ≤ 65536 }
+    ensures rows { ReadsTold (λ rows. rows) (D.told disk.old) result (λ content. option_map (rows_in name.now) (objects_of usable (file_pages (length buf.old) content) entries.now)) }
     ensures same { D.told disk.new ≡ D.told disk.old }
     ensures attached { D.attached disk.new ≡ true }
     ensures operations { D.op_faults disk.new ≡ D.op_faults disk.old }
@@ -107,7 +110,7 @@ fn read_tables<D: Disk>(
     let mut found = None;
     let mut left = entries;
     while let [entry, rest @ ..] = left {
-        let rows = read_table(alloc, disk, header, entry, buf)?;
+        let rows = read_table(alloc, disk, usable, entry, buf)?;
         let is_wanted = agree(entry.table.name.as_slice(), name);
         found = keep(found, rows, is_wanted);
         left = rest;
@@ -115,56 +118,30 @@ fn read_tables<D: Disk>(
     Ok(found)
 }
 
-// Whether a file is absent or has no bytes.
-fn is_empty<D: Disk>(disk: &mut D, file: FileNo) -> Result<bool, Failed>
-    requires attached { D.attached disk.old ≡ true }
-    requires numbered { IsFile file }
-    ensures empty { IfOk result (λ b. WhereTold (D.told disk.old) (λ content. b ≡ (length (bytes_of content file) == 0))) }
-    ensures same { D.told disk.new ≡ D.told disk.old }
-    ensures attached { D.attached disk.new ≡ true }
-    ensures operations { D.op_faults disk.new ≡ D.op_faults disk.old }
-    ensures cause { HasDiskCause (D.read_faults disk.old) (D.read_faults disk.new) result }
+#[tactic(auto, unfolding(crate::specs::Small::has_no_free, spe_model::specs::Big::u32_at))]
+fn has_no_free(page: &[u8]) -> bool
+    requires { 100 ≤ length page.now }
+    ensures { result ≡ has_no_free page.now }
 {
-    Ok(disk.length(file)?.unwrap_or(0) == 0)
+    BigEndian::read_u32(&page[32..]) == 0 && BigEndian::read_u32(&page[36..]) == 0
 }
 
-// Whether no journal has bytes.
-#[tactic(auto, unfolding(crate::specs::Small::has_no_journals))]
-fn has_no_journals<D: Disk>(disk: &mut D) -> Result<bool, Failed>
-    requires attached { D.attached disk.old ≡ true }
-    ensures journals { IfOk result (λ b. WhereTold (D.told disk.old) (λ content. b ≡ has_no_journals content)) }
-    ensures same { D.told disk.new ≡ D.told disk.old }
-    ensures attached { D.attached disk.new ≡ true }
-    ensures operations { D.op_faults disk.new ≡ D.op_faults disk.old }
-    ensures cause { HasDiskCause (D.read_faults disk.old) (D.read_faults disk.new) result }
+// The tables of a schema that is one page.
+#[tactic(auto, unfolding(crate::specs::Small::entries_of))]
+fn schema_of(alloc: Global, page: &[u8], usable: usize, count: u64) -> Result<Vec<Entry>, Miss>
+    requires low { 480 ≤ usable }
+    requires high { usable ≤ length page.now }
+    requires page { length page.now ≤ 65536 }
+    ensures entries { Finds (λ v. v.items) result (entries_of usable count (λ _. page.now)) }
+    ensures among { IfOk result (λ v. list_all (is_among count) v.items ≡ true) }
 {
-    let mut left: u8 = 16;
-    while left > 0 {
-        left -= 1;
-        if !is_empty(disk, FileNo::Journal(left))? {
-            return Ok(false);
-        }
+    let cells = leaf(alloc, page, 100, usable)?;
+    let entries = entries(alloc, cells.as_slice())?;
+    if are_apart(count, entries.as_slice()) {
+        Ok(entries)
+    } else {
+        Err(Miss::NotBuilt)
     }
-    Ok(true)
-}
-
-// The number of pages of a file of so many bytes that has no free pages, all its pages, and no more
-// bytes in them than the limit.
-#[tactic(auto, unfolding(crate::specs::Small::is_whole))]
-fn whole_pages(header: &Header, size: u64) -> Option<u64>
-    requires { IsSized header.now }
-    ensures whole { is_some result ≡ is_whole header.now size }
-    ensures count { IfSome result (λ n. (n ≡ page_count_of header.now size) × (n ≤ 2 ^ 30)) }
-{
-    if header.first_free != 0 || header.free_count != 0 {
-        return None;
-    }
-    let count = page_count(header, size);
-    let bytes = count.checked_mul(u64::from(header.page_size))?;
-    if bytes > MOST_BYTES || bytes > size {
-        return None;
-    }
-    Some(count)
 }
 
 /// The rows of the table of this name in a database of the kind that is read so far.
@@ -172,40 +149,32 @@ fn whole_pages(header: &Header, size: u64) -> Option<u64>
 pub fn small_rows<D: Disk>(
     alloc: Global,
     disk: &mut D,
-    header: &Header,
+    found: &Recovered,
     name: &[u8],
 ) -> Result<Option<Rows>, Stop>
     requires attached { D.attached disk.old ≡ true }
-    requires sized { IsSized header.now }
-    ensures rows { ReadsTold (λ rows. rows) (D.told disk.old) result (λ content. option_map (rows_in name.now) (small_database content header.now (bytes_of content Database))) }
+    requires limits { IsWithinLimits found.now }
+    ensures rows { ReadsTold (λ rows. rows) (D.told disk.old) result (λ content. option_map (rows_in name.now) (small_database (found.now.page_size - found.now.reserved) found.now.pages (file_pages found.now.page_size content))) }
     ensures same { D.told disk.new ≡ D.told disk.old }
     ensures attached { D.attached disk.new ≡ true }
     ensures operations { D.op_faults disk.new ≡ D.op_faults disk.old }
     ensures cause { HasCause (D.read_faults disk.old) (D.read_faults disk.new) result }
 {
-    if !has_no_journals(disk)? {
+    let usable = usable_of(found);
+    let count = u64::from(found.pages);
+    let mut buf = vec![in alloc; 0u8; found.page_size as usize]?;
+    read_page(disk, 1, &mut buf)?;
+    if !has_no_free(&buf) {
         return Err(Stop::NotBuilt);
     }
-    let size = disk.length(FileNo::Database)?.unwrap_or(0);
-    let Some(count) = whole_pages(header, size) else {
-        return Err(Stop::NotBuilt);
-    };
-    let mut buf = vec![in alloc; 0u8; header.page_size as usize]?;
-    let cells = read_leaf(alloc, disk, header, 1, 100, &mut buf)?;
-    let entries = entries(alloc, cells.as_slice())?;
-    if !are_apart(count, entries.as_slice()) {
-        return Err(Stop::NotBuilt);
-    }
+    let entries = schema_of(alloc, &buf, usable, count)?;
     read_tables(
         alloc,
         disk,
-        header,
+        usable,
         entries.as_slice(),
         name,
         &mut buf,
         count,
     )
 }
-
-// The most bytes that the pages of a database may have.
-const MOST_BYTES: u64 = 1 << 30;

@@ -24,7 +24,7 @@ fn words(rt: HostRuntime) -> Result<(), Fail> {
 }
 
 // Bytes laid over the file `people.db`, how much of it is kept, and what is printed of it.
-static FILES: [(Patch, usize, &str); 21] = [
+static FILES: [(Patch, usize, &str); 22] = [
     ((0, b""), 0, "refused header 1\n"),
     ((0, b""), 99, "refused header 1\n"),
     ((5, b"f"), 1024, "refused header 2\n"),
@@ -36,10 +36,16 @@ static FILES: [(Patch, usize, &str); 21] = [
     ((59, b"\x02"), 1024, "refused header 6\n"),
     ((20, b"\x21"), 1024, "refused header 7\n"),
     ((47, b"\x03"), 1024, "refused header 8\n"),
-    // a freelist, a page missing from the file, a page that is cut off
+    // a page missing from the file, a page that is cut off, too many pages
+    ((31, b"\x03"), 1024, "refused short-file 3 1024\n"),
+    ((0, b""), 1023, "refused short-file 2 1023\n"),
+    (
+        (28, b"\x00\x20\x00\x01"),
+        1024,
+        "refused too-large 2097153\n",
+    ),
+    // a freelist
     ((35, b"\x02"), 1024, "refused not-built\n"),
-    ((31, b"\x03"), 1024, "refused not-built\n"),
-    ((0, b""), 1023, "refused not-built\n"),
     // an interior page, cells that overlap, keys out of order, a reserved serial type
     ((512, b"\x05"), 1024, "refused not-built\n"),
     ((520, b"\x01\xf9"), 1024, "refused not-built\n"),

@@ -44,6 +44,23 @@ pub fn disk_of(alloc: Global, file: Option<&[u8]>, failing: &[u64]) -> Result<Me
     Ok(disk)
 }
 
+/// A disk with this database file and these journals.
+pub fn disk_with(
+    alloc: Global,
+    file: &[u8],
+    journals: &[(u8, Vec<u8>)],
+) -> Result<MemDisk, AllocError>
+    ensures { IfOk result (λ d. is_attached d ≡ false) }
+{
+    let mut disk = disk_of(alloc, Some(file), &[])?;
+    for (id, bytes) in journals {
+        if *id < 16 {
+            let _ = disk.load(FileNo::Journal(*id), bytes);
+        }
+    }
+    Ok(disk)
+}
+
 /// A sink that takes at most so many bytes a call, and whose listed calls fail.
 pub fn sink_of(alloc: Global, most: usize, failing: &[u64]) -> Result<MemSink, AllocError> {
     let failing = Numbers::new(Vec::from_slice(alloc, failing)?);

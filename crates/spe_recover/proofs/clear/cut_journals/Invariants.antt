@@ -1,6 +1,6 @@
 use Rattle.std.proofs.Common.{◌≡◌, ◌≤◌, ◌-◌, true}
 use Rattle.spe_recover.specs.Restored.{StaysFrom}
-use Rattle.spe_recover.proofs.ClearLemmas.{AreUncut}
+use Rattle.spe_recover.proofs.ClearLemmas.{AreUncut, HasCutsLeft}
 use Rattle.spe_recover.proofs.clear.cut_journals.Given as goal
 
 abbrev pub invariant-loop-id : goal.invariant-loop-id
@@ -12,6 +12,7 @@ invariant-loop-id g l = record {
   few : l.made ≤ l.id;
   stays : StaysFrom l.id (g.D.Disk.told l.fn.disk) (g.D.Disk.told l.disk);
   cut : AreUncut l.id (g.D.Disk.told l.fn.disk) (g.D.Disk.told l.disk) l.made;
+  begun : HasCutsLeft l.id (g.D.Disk.told l.fn.disk) (g.D.Disk.told l.disk);
 }
 
 abbrev pub decreases-loop-id : goal.decreases-loop-id

@@ -5,6 +5,9 @@ use Rattle.spe_recover.proofs.front.page_size_of.Goals as goal
 pub page_size_at-requires : goal.page_size_at-requires
 page_size_at-requires c = (fault_of-none c.args.bytes.now (sym c.in-None.ensures)).long
 
+pub returns-in-None-clause-power : goal.returns-in-None-clause-power
+returns-in-None-clause-power c = rw c.page_size_at.ensures (fault_of-none c.args.bytes.now (sym c.in-None.ensures)).power
+
 pub returns-in-None-clause-low : goal.returns-in-None-clause-low
 returns-in-None-clause-low c = omega (arith, c.page_size_at.ensures, (fault_of-none c.args.bytes.now (sym c.in-None.ensures)).low)
 

@@ -1,37 +1,12 @@
-use Rattle.std.proofs.Common.{◌∙◌, sym}
-use Rattle.spe_recover.proofs.EmptiedLemmas.{told_empty}
-use Rattle.spe_recover.proofs.RecoveredLemmas.{found_pages, found_header, found_reserved, found_node, found_wanted, is_unwanted, is_refusal, is_ready}
+use Rattle.spe_recover.proofs.SettledLemmas.{left_settled, left_pages}
 use Rattle.spe_recover.proofs.recovery.recover.Goals as goal
 
-pub returns-in-Err-clause-refusal : goal.returns-in-Err-clause-refusal
-returns-in-Err-clause-refusal g c = is_refusal (g.D.Disk.told c.args.disk.now) c.args.want c.in-Err.fault (rw c.in-Err.is at c.find_known.ensures.answers)
+pub returns-clause-leaves : goal.returns-clause-leaves
+returns-clause-leaves g c =
+    left_pages (g.D.Disk.told c.args.disk.now) _ c.rollback_keeps.ensures.keeps c.rollback_keeps.ensures.covered c.recover_files.ensures.cut
 
-pub returns-then-not-is_wanted-clause-refusal : goal.returns-then-not-is_wanted-clause-refusal
-returns-then-not-is_wanted-clause-refusal g c =
-    is_unwanted (g.D.Disk.told c.args.disk.now) c.in-Ok.known c.args.want (sym c.is_wanted.ensures ∙ c.if-not-is_wanted.true) (rw c.in-Ok.is at c.find_known.ensures.answers)
-
-pub roll_back-requires-clause-ready : goal.roll_back-requires-clause-ready
-roll_back-requires-clause-ready g c =
-    rw c.find_known.ensures.same (is_ready (g.D.Disk.told c.args.disk.now) c.in-Ok.known (rw c.in-Ok.is at c.find_known.ensures.answers))
-
-pub returns-clause-pages : goal.returns-clause-pages
-returns-clause-pages g c = found_pages (g.D.Disk.told c.args.disk.now) c.in-Ok.known _ c.in_ok-roll_back.ensures.pages (rw c.in-Ok.is at c.find_known.ensures.answers)
-
-pub returns-clause-reserved : goal.returns-clause-reserved
-returns-clause-reserved g c =
-    found_reserved (g.D.Disk.told c.args.disk.now) c.in-Ok.known.survey.header _ c.in_ok-roll_back.ensures.reserved
-    (found_header (g.D.Disk.told c.args.disk.now) c.in-Ok.known (rw c.in-Ok.is at c.find_known.ensures.answers))
-
-pub returns-clause-node : goal.returns-clause-node
-returns-clause-node g c =
-    found_node (g.D.Disk.told c.args.disk.now) c.in-Ok.known.survey.header _ c.in_ok-roll_back.ensures.node
-    (found_header (g.D.Disk.told c.args.disk.now) c.in-Ok.known (rw c.in-Ok.is at c.find_known.ensures.answers))
-
-pub returns-clause-wanted : goal.returns-clause-wanted
-returns-clause-wanted g c =
-    found_wanted (g.D.Disk.told c.args.disk.now) c.in-Ok.known.survey.header c.args.want _ (sym c.is_wanted.ensures ∙ c.if-not-is_wanted.false)
-    (found_header (g.D.Disk.told c.args.disk.now) c.in-Ok.known (rw c.in-Ok.is at c.find_known.ensures.answers))
-
-pub returns-clause-emptied : goal.returns-clause-emptied
-returns-clause-emptied g c =
-    told_empty (g.D.Disk.told c.args.disk.now) _ c.in-Ok.known.survey.pages c.in_ok-roll_back.field-0.ops (rw c.find_known.ensures.same at c.in_ok-roll_back.ensures.made)
+pub returns-clause-settled : goal.returns-clause-settled
+returns-clause-settled g c =
+    left_settled (g.D.Disk.told c.args.disk.now) _ c.recover_files.result c.rollback_keeps.ensures.keeps c.rollback_restores.ensures.empties
+    c.rollback_restores.ensures.restores c.recovered_pages.ensures.headed c.recovered_pages.ensures.whole
+    c.recover_files.ensures.pages c.recover_files.ensures.page_size c.recover_files.ensures.reserved c.recover_files.ensures.made c.recover_files.ensures.cut

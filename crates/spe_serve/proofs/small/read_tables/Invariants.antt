@@ -12,8 +12,8 @@ invariant-loop-left g l = record {
   operations : g.D.Disk.op_faults l.disk ≡ g.D.Disk.op_faults l.fn.disk;
   later : g.D.Disk.read_faults l.fn.disk ≤ g.D.Disk.read_faults l.disk;
   among : list_all (is_among l.count) l.left ≡ true;
-  page : length l.buf ≡ l.header.page_size;
-  searched : WhereTold (g.D.Disk.told l.fn.disk) (IsSearched l.header l.name l.fn.entries l.found l.left);
+  page : length l.buf ≡ length l.fn.buf;
+  searched : WhereTold (g.D.Disk.told l.fn.disk) (IsSearched l.usable (length l.fn.buf) l.name l.fn.entries l.found l.left);
 }
 
 abbrev pub decreases-loop-left : goal.decreases-loop-left

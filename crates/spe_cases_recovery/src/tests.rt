@@ -1,0 +1,5 @@
+mod faults;
+mod files;
+mod journals;
+mod run;
+mod stops;

@@ -1,0 +1,4 @@
+pub mod Write
+pub mod Rollback
+pub mod Trace
+pub mod Pages
