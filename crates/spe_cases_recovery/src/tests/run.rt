@@ -40,10 +40,12 @@ pub fn disk_of(
     };
     let mut disk = MemDisk::new(alloc, 1 << 15, 16, faults)?;
     let _ = disk.load(FileNo::Database, file);
-    for (id, bytes) in journals {
+    let mut left = journals;
+    while let [(id, bytes), rest @ ..] = left {
         if *id < 16 {
             let _ = disk.load(FileNo::Journal(*id), bytes);
         }
+        left = rest;
     }
     Ok(disk)
 }

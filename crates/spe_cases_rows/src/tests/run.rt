@@ -53,10 +53,12 @@ pub fn disk_with(
     ensures { IfOk result (λ d. is_attached d ≡ false) }
 {
     let mut disk = disk_of(alloc, Some(file), &[])?;
-    for (id, bytes) in journals {
+    let mut left = journals;
+    while let [(id, bytes), rest @ ..] = left {
         if *id < 16 {
             let _ = disk.load(FileNo::Journal(*id), bytes);
         }
+        left = rest;
     }
     Ok(disk)
 }
