@@ -36,7 +36,7 @@ hot_records-short page_size journal short =
 starts_with-append : (xs ys needle : List ℕ) → length needle ≤ length xs → starts_with nat_eq (xs ++ ys) needle ≡ starts_with nat_eq xs needle
 starts_with-append xs ys needle fits = rw (take-append-le (length needle) xs ys fits) refl
 
-u32_at-append : (front behind : List ℕ) (at : ℕ) → at + 4 ≤ length front → u32_at (front ++ behind) at ≡ u32_at front at
+pub u32_at-append : (front behind : List ℕ) (at : ℕ) → at + 4 ≤ length front → u32_at (front ++ behind) at ≡ u32_at front at
 unfolding u32_at
 u32_at-append front behind at fits =
     rw (drop-append-le at front behind (omega arith)) (big_from-append 4 (drop at front) behind (omega (arith, length-drop at front)))
@@ -81,12 +81,12 @@ unfolding head_page_size head_bytes
 head_bytes-size nonce pages page_size fits =
     u32_at-written (journal_magic ++ big_bytes 4 0xffffffff ++ big_bytes 4 nonce ++ big_bytes 4 pages ++ big_bytes 4 512) (replicate 484 0) 24 page_size refl fits
 
-head_bytes-nonce : (nonce pages page_size : ℕ) → nonce < 2 ^ 32 → u32_at (head_bytes nonce pages page_size) 12 ≡ nonce
+pub head_bytes-nonce : (nonce pages page_size : ℕ) → nonce < 2 ^ 32 → u32_at (head_bytes nonce pages page_size) 12 ≡ nonce
 unfolding head_bytes
 head_bytes-nonce nonce pages page_size fits =
     u32_at-written (journal_magic ++ big_bytes 4 0xffffffff) (big_bytes 4 pages ++ big_bytes 4 512 ++ big_bytes 4 page_size ++ replicate 484 0) 12 nonce refl fits
 
-head_bytes-length : (nonce pages page_size : ℕ) → length (head_bytes nonce pages page_size) ≡ 512
+pub head_bytes-length : (nonce pages page_size : ℕ) → length (head_bytes nonce pages page_size) ≡ 512
 unfolding head_bytes
 head_bytes-length nonce pages page_size = refl
 

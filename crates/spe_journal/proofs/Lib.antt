@@ -6,3 +6,4 @@ mod PiecesLemmas
 mod KindLemmas
 mod TextLemmas
 mod WrittenLemmas
+pub mod HotLemmas

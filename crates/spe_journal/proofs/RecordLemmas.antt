@@ -56,7 +56,7 @@ pub record-saved_of : (nonce page : ℕ) (content : List ℕ) → page < 2 ^ 32
     → saved_of (length content) (record_bytes nonce page content) ≡ record { page = page; content = content }
 record-saved_of nonce page content fits = rw (record-page nonce page content fits, record-content nonce page content) refl
 
-record-length : (nonce page : ℕ) (content : List ℕ) → length (record_bytes nonce page content) ≡ length content + 8
+pub record-length : (nonce page : ℕ) (content : List ℕ) → length (record_bytes nonce page content) ≡ length content + 8
 unfolding record_bytes
 record-length nonce page content =
     omega (arith, length-append (big_bytes 4 page ++ content) (big_bytes 4 (checksum_of nonce content)), length-append (big_bytes 4 page) content)

@@ -15,7 +15,7 @@ use Rattle.spe_journal.proofs.RecordLemmas.{record-first}
 use Rattle.spe_journal.proofs.KindLemmas.{head_bytes-kind, head_bytes-saves}
 use Rattle.spe_journal.proofs.TextLemmas.{text_of-kind}
 
-saved_in-written : (nonce page_size : ℕ) (saved : List Saved) (torn : List ℕ) → All (IsSavable page_size) saved → length torn < page_size + 8
+pub saved_in-written : (nonce page_size : ℕ) (saved : List Saved) (torn : List ℕ) → All (IsSavable page_size) saved → length torn < page_size + 8
     → saved_in nonce page_size (flat_map (λ s. record_bytes nonce s.page s.content) saved ++ torn) ≡ saved
 saved_in-written nonce page_size [] torn savable cut = saved_in-torn nonce page_size torn cut
 saved_in-written nonce page_size (s ∷ more) torn savable cut =
