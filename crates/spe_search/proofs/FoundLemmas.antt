@@ -9,7 +9,7 @@ use Rattle.spe_model.specs.declared.page.Cell.{Cell}
 use Rattle.spe_model.specs.Paging.{Paging}
 use Rattle.spe_model.specs.Chain.{IsLink}
 use Rattle.spe_model.specs.Tree.{rank, rest_of, fan, IsTree, tree_pages, child_for, node_cells, node_right}
-use Rattle.spe_space.specs.Calls.{Reads, sight}
+use Rattle.spe_space.specs.Calls.{Reads, sight, reads_both}
 use Rattle.spe_space.specs.Found.{Answers, AddsOfChain}
 use Rattle.spe_space.specs.declared.pages.Pages.{Ghosts}
 use Rattle.spe_space.specs.declared.fault.TreeFault.{TreeFault}
@@ -159,10 +159,4 @@ adds_below g early mid late page rowid child first second only given adds pages 
     ]
 
 pub reads_twice : {P : Type 0} (g : Ghosts P) (a b c : P) → Reads g a b → Reads g b c → Reads g a c
-reads_twice g a b c first second = record {
-  earlier = λ pages agrees. first.earlier pages (second.earlier pages agrees);
-  laid = second.laid ∙ first.laid;
-  size = second.size ∙ first.size;
-  used = second.used ∙ first.used;
-  count = second.count ∙ first.count;
-}
+reads_twice = reads_both

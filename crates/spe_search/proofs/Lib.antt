@@ -4,3 +4,6 @@ pub mod TreeLemmas
 pub mod FoundLemmas
 pub mod RangeLemmas
 pub mod WalkLemmas
+pub mod AddsLemmas
+pub mod EndLemmas
+pub mod LastLemmas

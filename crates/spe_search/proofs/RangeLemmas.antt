@@ -1,5 +1,6 @@
 -- Listing the children and pushing the rows of one page.
 use Rattle.std.proofs.Common.{◌≡◌, ℕ, zero, suc, ℤ, ◌+◌, ◌<◌, ◌≤◌, ◌∙◌, ◌&&◌, true, false, List, [], ◌∷◌, ◌++◌, length, map, drop, get_or, All, Option, Some, None, Ok, Err, refl, sym, ap, subst, arith, leb, append_assoc, append-nil, inl, inr}
+use Rattle.std.proofs.lemmas.Bool.Decides.{leb_tells}
 use Rattle.std.proofs.lemmas.List.{drop_more, length-map}
 use Rattle.std.proofs.lemmas.List.Elements.{All-push}
 use Rattle.spe_model.specs.declared.page.Cell.{Cell}
@@ -122,16 +123,27 @@ damage_row X Y g early now later page shown i c (Corrupt at) kept is damage page
     let all = rw (kept.used, kept.laid) at (damage pages agrees) in
     inr (c, record { index = i; is = sym is }, all)
 
-pub adds_row_more : {P : Type 0} (g : Ghosts P) (early now later : P) (shown : List (Option Cell)) (i : ℕ) (c : Cell)
-    → Reads g early now → Reads g now later → Some c ≡ get_or shown i None → AddsOfRows g early now shown → AddsOfRow g now later c → AddsOfRows g early later shown
-adds_row_more g early now later shown i c kept keeps is before adds pages agrees n =
+both_in : (low k high : ℕ) → (leb low k && leb k high) ≡ true → (low ≤ k) × (k ≤ high)
+both_in low k high h = elim (leb_tells low k) [
+  | inl from ↦ (elim (leb_tells k high) [
+    | inl to ↦ (from.1, to.1)
+    | inr over ↦ absurd (let e : true ≡ false = sym h ∙ rw (from.0, over.0) refl in cc)
+  ])
+  | inr under ↦ absurd (let e : true ≡ false = sym h ∙ rw under.0 refl in cc)
+]
+
+pub adds_row_more : {P : Type 0} (g : Ghosts P) (early now later : P) (shown : List (Option Cell)) (low high i : ℕ) (c : Cell)
+    → Reads g early now → Reads g now later → Some c ≡ get_or shown i None → (leb low (rank c.key) && leb (rank c.key) high) ≡ true
+    → AddsOfRows g early now shown low high → AddsOfRow g now later c → AddsOfRows g early later shown low high
+adds_row_more g early now later shown low high i c kept keeps is inside before adds pages agrees n =
     let all = rw (kept.used, kept.laid) at (adds pages agrees n) in
+    let bounds = both_in low (rank c.key) high inside in
     elim all [
       | inl same ↦ (elim (before pages (keeps.earlier pages agrees) n) [
         | inl as_before ↦ inl (same ∙ as_before)
         | inr has ↦ inr has
       ])
-      | inr link ↦ inr (record { row = c; is = record { index = i; is = sym is }; link = link })
+      | inr link ↦ inr (record { row = c; is = record { index = i; is = sym is }; from = bounds.0; to = bounds.1; link = link })
     ]
 
 pub shown_push : (shown : List (Option Cell)) (right i : ℕ) (c : Cell) (children more : List ℕ) → Some c ≡ get_or shown i None → All (HasChild shown right) children

@@ -1,10 +1,11 @@
 -- The rows of a tree between two rowids, child by child.
-use Rattle.std.proofs.Common.{◌≡◌, ℕ, zero, suc, ℤ, ◌+◌, ◌-◌, ◌<◌, ◌≤◌, ◌∙◌, ◌⊎◌, ◌&&◌, Bool, true, false, List, [], ◌∷◌, ◌++◌, take, length, Result, Ok, Err, refl, sym, ap, subst, arith, leb, append_assoc, append-nil, inl, inr}
+use Rattle.std.proofs.Common.{◌≡◌, ℕ, zero, suc, ℤ, ◌+◌, ◌-◌, ◌<◌, ◌≤◌, ◌∙◌, ◌⊎◌, ◌&&◌, Bool, true, false, List, [], ◌∷◌, ◌++◌, take, length, get_or, All, Result, Ok, Err, refl, sym, ap, subst, arith, leb, append_assoc, append-nil, inl, inr}
 use Rattle.std.specs.declared.vec.Vec.{Vec}
 use Rattle.std.specs.declared.alloc.Global.{Global}
 use Rattle.std.proofs.lemmas.Bool.Decides.{leb_tells}
 use Rattle.std.proofs.lemmas.List.Elements.{filter-append}
-use Rattle.std.proofs.lemmas.List.{take_all}
+use Rattle.std.specs.List.{Contains}
+use Rattle.std.proofs.lemmas.List.{take_all, get_or_default}
 use Rattle.spe_model.specs.declared.page.Cell.{Cell}
 use Rattle.spe_model.specs.Paging.{Paging}
 use Rattle.spe_model.specs.Tree.{rank, AreRows, AreUnder, IsTree, rows_of, fan, tree_rows, node_cells, node_right}
@@ -70,6 +71,9 @@ touched_rows low high T rows none a b (c ∷ cs) right under =
       ])
     ]
 
+all_own : (xs : List ℕ) → All (Contains xs) xs
+all_own xs k d within = (k, within, get_or_default xs k (get_or xs k d) d within)
+
 -- a page is visited
 pub walked_first : {P : Type 0} (g : Ghosts P) (early late : P) (page low high levels : ℕ) (old new : List (ℤ × List ℕ)) (v : Vec ℕ Global) (left : List ℕ) → left ≡ v.items
     → Visits g early late page low high old new (Ok v) → VisitDamage g early late page (Ok v) → HasWalked g early late page low high levels old new left
@@ -80,8 +84,10 @@ walked_first g early late page low high levels old new v left e visits damage pa
     let P : List ℕ → Type 0 = λ l. IsWalked usable view page low high levels old new l in
     subst P (sym e) (record {
       leaf = λ a b tree. visit.leaf a b tree;
-      trees = λ height a b deep tree. let Q : List ℕ → Type 0 = AreTrees (IsTree usable view height) in
+      trees = λ height a b tree. let Q : List ℕ → Type 0 = AreTrees (IsTree usable view height) in
           subst Q (sym (visit.interior height a b tree).0) (touched_trees low high (IsTree usable view height) a b (node_cells usable view page) (node_right usable view page) tree.1);
+      touches = λ height a b tree. let Q : List ℕ → Type 0 = All (Contains (touched low high (node_cells usable view page) (node_right usable view page))) in
+          subst Q (sym (visit.interior height a b tree).0) (all_own (touched low high (node_cells usable view page) (node_right usable view page)));
       rows = λ height a b deep tree. let it = visit.interior height a b tree in
           ap (λ xs. xs ++ joined (λ p. between low high (tree_rows usable view height p)) v.items) (it.1 ∙ append-nil old)
           ∙ ap (λ l. old ++ joined (λ p. between low high (tree_rows usable view height p)) l) it.0
@@ -110,8 +116,9 @@ walked_more g early now later page low high levels child old mid new left rest k
     let all = rw (kept.used, kept.laid) at (walks pages agrees) in
     record {
       leaf = λ a b tree. absurd (let h = (before.leaf a b tree).0 in cc);
-      trees = λ height a b deep tree. (before.trees height a b deep tree).1;
-      rows = λ height a b deep tree. let here = (before.trees height a b deep tree).0 in
+      trees = λ height a b tree. (before.trees height a b tree).1;
+      touches = λ height a b tree k d inside. before.touches height a b tree (suc k) d (omega (arith, inside));
+      rows = λ height a b deep tree. let here = (before.trees height a b tree).0 in
           ap (λ xs. xs ++ joined (λ p. between low high (tree_rows usable view height p)) rest) (all height here.0 here.1 (omega (arith, deep)) here.2)
           ∙ append_assoc mid (between low high (tree_rows usable view height child)) (joined (λ p. between low high (tree_rows usable view height p)) rest)
           ∙ before.rows height a b deep tree;
@@ -127,7 +134,7 @@ walked_fault g early now later page low high levels child (Corrupt at) old mid n
     let h = (before.leaf a b tree).0 in cc
 walked_fault g early now later page low high levels child (Corrupt at) old mid new all left rest kept keeps e walked walks pages agrees (suc height) a b under tree =
     let before = rw e at (walked pages (keeps.earlier pages agrees)) in
-    let here = (before.trees height a b under tree).0 in
+    let here = (before.trees height a b tree).0 in
     let whole = rw (kept.used, kept.laid) at (walks pages agrees) in
     whole height here.0 here.1 (omega (arith, under)) here.2
 

@@ -2,3 +2,4 @@ pub mod Step
 pub mod Found
 pub mod Pairs
 pub mod Range
+pub mod Last

@@ -1,17 +1,20 @@
 -- What a walk over the rows between two rowids answers, whatever the pages below the space are, as long as they agree with
 -- all that was given.
-use Rattle.std.specs.Prelude.{◌≡◌, ◌⊎◌, ℕ, zero, suc, ℤ, ◌<◌, List, [], ◌∷◌, ◌++◌, map, drop, Option, Some, None, Result, Ok, Err, All}
+use Rattle.std.specs.Prelude.{◌≡◌, ◌⊎◌, ℕ, zero, suc, ℤ, ◌<◌, ◌≤◌, List, [], ◌∷◌, ◌++◌, map, drop, Option, Some, None, Result, Ok, Err, All}
+use Rattle.std.specs.List.{Contains}
 use Rattle.std.specs.declared.vec.Vec.{Vec}
 use Rattle.std.specs.declared.alloc.Global.{Global}
 use Rattle.std.specs.declared.alloc.AllocError.{AllocError}
+use Rattle.spe_model.specs.declared.page.Kind.TheVariants.{TableLeaf}
 use Rattle.spe_model.specs.declared.page.Cell.{Cell}
+use Rattle.spe_model.specs.declared.page.PageCells.{PageCells}
 use Rattle.spe_model.specs.Paging.{Paging, Agrees}
 use Rattle.spe_model.specs.Chain.{IsChain, IsAmiss, BreaksAt, IsLink}
-use Rattle.spe_model.specs.Tree.{rank, rest_of, payload_of, AreRows, rows_of, IsTree, IsTableTree, tree_rows, node_cells, node_right}
+use Rattle.spe_model.specs.Tree.{rank, rest_of, payload_of, AreRows, rows_of, IsTree, IsTableTree, tree_rows, header_end, node_at, node_cells, node_right}
 use Rattle.spe_model.specs.Range.{between, touched, joined}
-use Rattle.spe_format.specs.View.{Shown}
+use Rattle.spe_format.specs.View.{Shown, shown_at}
 use Rattle.spe_space.specs.Found.{Answers}
-use Rattle.spe_search.specs.Found.{IsFaulty, BreaksRow, ShowsChild}
+use Rattle.spe_search.specs.Found.{used_of, IsFaulty, BreaksRow, ShowsCell, ShowsChild}
 use Rattle.spe_search.specs.Step.{ShowsNoTable}
 use Rattle.spe_space.specs.Calls.{sight}
 use Rattle.spe_space.specs.declared.pages.Pages.{Ghosts}
@@ -60,14 +63,17 @@ abbrev pub AddsOfRow : {P : Type 0} (g : Ghosts P) (early late : P) (c : Cell) �
 AddsOfRow g early late c =
     (pages : Paging) → Agrees pages (g.seen late) → (n : ℕ) → (g.seen late n ≡ g.seen early n) ⊎ IsLink (g.used early) (sight g early pages) (rest_of c) c.chain n
 
-pub record IsLinkOf (usable : ℕ) (pages : Paging) (shown : List (Option Cell)) (n : ℕ) : Type 0 where
+-- a page of the chain of a row between two rowids, by rank
+pub record IsLinkOf (usable : ℕ) (pages : Paging) (shown : List (Option Cell)) (low high n : ℕ) : Type 0 where
   pub row : Cell
   pub is : HasCell shown row
+  pub from : low ≤ rank row.key
+  pub to : rank row.key ≤ high
   pub link : IsLink usable pages (rest_of row) row.chain n
 
-abbrev pub AddsOfRows : {P : Type 0} (g : Ghosts P) (early late : P) (shown : List (Option Cell)) → Type 0
-AddsOfRows g early late shown =
-    (pages : Paging) → Agrees pages (g.seen late) → (n : ℕ) → (g.seen late n ≡ g.seen early n) ⊎ IsLinkOf (g.used early) (sight g early pages) shown n
+abbrev pub AddsOfRows : {P : Type 0} (g : Ghosts P) (early late : P) (shown : List (Option Cell)) (low high : ℕ) → Type 0
+AddsOfRows g early late shown low high =
+    (pages : Paging) → Agrees pages (g.seen late) → (n : ℕ) → (g.seen late n ≡ g.seen early n) ⊎ IsLinkOf (g.used early) (sight g early pages) shown low high n
 
 abbrev pub ListsChildren : List (Option Cell) → (right low high : ℕ) → Result (Option (Vec ℕ Global)) AllocError → Type 0
 ListsChildren shown right low high (Err e) = Unit {0}
@@ -111,6 +117,23 @@ HasLookCause usable pages page shown (Err (Corrupt at)) =
 abbrev pub LookDamage : {P : Type 0} (g : Ghosts P) (early late : P) (page : ℕ) (shown : Shown) (result : Result (Vec ℕ Global) TreeFault) → Type 0
 LookDamage g early late page shown result = (pages : Paging) → Agrees pages (g.seen late) → HasLookCause (g.used early) (sight g early pages) page shown result
 
+abbrev pub AddsOfLook : {P : Type 0} (g : Ghosts P) (early late : P) (shown : Shown) (low high : ℕ) → Type 0
+AddsOfLook g early late shown low high =
+    (pages : Paging) → Agrees pages (g.seen late)
+    → (n : ℕ) → (g.seen late n ≡ g.seen early n) ⊎ ((shown.kind ≡ TableLeaf) × IsLinkOf (g.used early) (sight g early pages) shown.cells low high n)
+
+-- a page of the chain of a row of a leaf
+pub record IsLinkAt (usable : ℕ) (pages : Paging) (page low high n : ℕ) : Type 0 where
+  pub shown : Shown
+  pub is : shown_at (used_of usable pages page) (header_end page) ≡ Ok shown
+  pub leaf : (cells : PageCells) → node_at usable pages page ≡ Ok cells → cells.kind ≡ TableLeaf
+  pub link : IsLinkOf usable pages shown.cells low high n
+
+abbrev pub AddsOfVisit : {P : Type 0} (g : Ghosts P) (early late : P) (page low high : ℕ) → Type 0
+AddsOfVisit g early late page low high =
+    (pages : Paging) → Agrees pages (g.seen late)
+    → (n : ℕ) → (g.seen late n ≡ g.seen early n) ⊎ ((n ≡ page) ⊎ IsLinkAt (g.used early) (sight g early pages) page low high n)
+
 -- a page of a tree
 pub record IsVisit (usable : ℕ) (pages : Paging) (page low high : ℕ) (old new : List (ℤ × List ℕ)) (result : Result (Vec ℕ Global) TreeFault) : Type 0 where
   pub leaf : (a b : ℕ) → IsTree usable pages zero a b page → Lists [] (between low high (tree_rows usable pages zero page)) old new result
@@ -139,6 +162,30 @@ FindsRange g early late root low high result =
     (pages : Paging) → Agrees pages (g.seen late) → (height : ℕ) → IsTableTree (g.used early) (sight g early pages) height root
     → Answers (λ rows. rows) (between (rank low) (rank high) (tree_rows (g.used early) (sight g early pages) height root)) result
 
+-- the pages of a tree that a walk over the rows between two rowids touches, by rank
+abbrev pub touched_pages : (usable : ℕ) (pages : Paging) (low high height page : ℕ) → List ℕ
+touched_pages usable pages low high zero page = page ∷ []
+touched_pages usable pages low high (suc height) page =
+    page ∷ joined (touched_pages usable pages low high height) (touched low high (node_cells usable pages page) (node_right usable pages page))
+
+-- a page of the chain of a row between the two rowids
+pub record IsOverflowBetween (usable : ℕ) (pages : Paging) (low high height page at : ℕ) : Type 0 where
+  pub leaf : ℕ
+  pub row : Cell
+  pub inside : Contains (touched_pages usable pages low high height page) leaf
+  pub shown : ShowsCell usable pages leaf row
+  pub from : low ≤ rank row.key
+  pub to : rank row.key ≤ high
+  pub link : IsLink usable pages (rest_of row) row.chain at
+
+-- each page that is given for the first time is one of the tree's that the two rowids touch, or of the chain of a row
+-- between them
+abbrev pub AddsOfRange : {P : Type 0} (g : Ghosts P) (early late : P) (page low high : ℕ) → Type 0
+AddsOfRange g early late page low high =
+    (pages : Paging) → Agrees pages (g.seen late) → (height a b : ℕ) → IsTree (g.used early) (sight g early pages) height a b page
+    → (n : ℕ) → (g.seen late n ≡ g.seen early n)
+    ⊎ (Contains (touched_pages (g.used early) (sight g early pages) low high height page) n ⊎ IsOverflowBetween (g.used early) (sight g early pages) low high height page n)
+
 -- some tree stands under each of these pages
 abbrev pub AreTrees : (T : (low high page : ℕ) → Type 0) → List ℕ → Type 0
 AreTrees T [] = Unit {0}
@@ -147,7 +194,9 @@ AreTrees T (page ∷ rest) = ((a : ℕ) × (b : ℕ) × T a b page) × AreTrees 
 -- in a loop over the children of a page: what is pushed, and the rows of those that are left
 pub record IsWalked (usable : ℕ) (pages : Paging) (page low high levels : ℕ) (old new : List (ℤ × List ℕ)) (left : List ℕ) : Type 0 where
   pub leaf : (a b : ℕ) → IsTree usable pages zero a b page → (left ≡ []) × (new ≡ old ++ between low high (tree_rows usable pages zero page))
-  pub trees : (height a b : ℕ) → suc height < levels → IsTree usable pages (suc height) a b page → AreTrees (IsTree usable pages height) left
+  pub trees : (height a b : ℕ) → IsTree usable pages (suc height) a b page → AreTrees (IsTree usable pages height) left
+  pub touches : (height a b : ℕ) → IsTree usable pages (suc height) a b page
+      → All (Contains (touched low high (node_cells usable pages page) (node_right usable pages page))) left
   pub rows : (height a b : ℕ) → suc height < levels → IsTree usable pages (suc height) a b page
       → new ++ joined (λ p. between low high (tree_rows usable pages height p)) left ≡ old ++ between low high (tree_rows usable pages (suc height) page)
   pub shown : All (ShowsChild usable pages page) left

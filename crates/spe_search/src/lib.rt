@@ -5,11 +5,13 @@
 //! with its cause.
 #![tactic(auto)]
 
+mod last;
 mod page;
 mod pairs;
 mod rows;
 mod search;
 
+pub use last::largest;
 pub use pairs::{Pair, Pairs};
 pub use rows::range;
 pub use search::find;

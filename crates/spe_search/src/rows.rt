@@ -5,7 +5,7 @@ ghost use Rattle.spe_model.specs.Tree.{rank};
 ghost use Rattle.spe_format.specs.View.{cell_seen};
 ghost use Rattle.spe_space.specs.Calls.{Reads, RefusesTree};
 ghost use Rattle.spe_search.specs.Step.{IsFoundIn};
-ghost use Rattle.spe_search.specs.Range.{PushesRow, PushesRows, RowDamage, RowsDamage, AddsOfRow, AddsOfRows, ListsChildren, LooksAtLeaf, LooksAtInterior, LookDamage, Visits, VisitDamage, WalksBelow, FindsRange};
+ghost use Rattle.spe_search.specs.Range.{PushesRow, PushesRows, RowDamage, RowsDamage, AddsOfRow, AddsOfRows, AddsOfLook, AddsOfVisit, AddsOfRange, ListsChildren, LooksAtLeaf, LooksAtInterior, LookDamage, Visits, VisitDamage, WalksBelow, FindsRange};
 ghost use Rattle.spe_search.specs.Found.{NamesDamage};
 ghost use Rattle.spe_model.specs.declared.page.Kind.TheVariants.{TableLeaf, TableInterior};
 
@@ -76,7 +76,7 @@ fn push_rows<S: Pages>(
     requires { length buf.old ≡ S.Pages.size space.old }
     ensures rows { PushesRows S.Pages space.old space.new view.now.cells low high out.old out.new result }
     ensures damage { RowsDamage S.Pages space.old space.new page view.now.cells result }
-    ensures adds { AddsOfRows S.Pages space.old space.new view.now.cells }
+    ensures adds { AddsOfRows S.Pages space.old space.new view.now.cells low high }
     ensures kept { Reads S.Pages space.old space.new }
     ensures refusal { RefusesTree S.Pages space.old space.new result }
 {
@@ -142,6 +142,7 @@ fn look<S: Pages>(
     ensures leaf { view.now.kind ≡ TableLeaf → LooksAtLeaf S.Pages space.old space.new view.now.cells low high out.old out.new result }
     ensures interior { view.now.kind ≡ TableInterior → LooksAtInterior view.now.cells view.now.right low high out.old out.new result }
     ensures damage { LookDamage S.Pages space.old space.new page view.now result }
+    ensures adds { AddsOfLook S.Pages space.old space.new view.now low high }
     ensures kept { Reads S.Pages space.old space.new }
     ensures refusal { RefusesTree S.Pages space.old space.new result }
 {
@@ -173,6 +174,7 @@ fn visit<S: Pages>(
     requires spare { length spare.old ≡ S.Pages.size space.old }
     ensures visits { Visits S.Pages space.old space.new page low high out.old out.new result }
     ensures damage { VisitDamage S.Pages space.old space.new page result }
+    ensures adds { AddsOfVisit S.Pages space.old space.new page low high }
     ensures kept { Reads S.Pages space.old space.new }
     ensures refusal { RefusesTree S.Pages space.old space.new result }
 {
@@ -200,6 +202,7 @@ fn walk<S: Pages>(
     requires spare { length spare.old ≡ S.Pages.size space.old }
     ensures rows { WalksBelow S.Pages space.old space.new page low high levels out.old out.new result }
     ensures damage { NamesDamage S.Pages space.old space.new page levels result }
+    ensures adds { AddsOfRange S.Pages space.old space.new page low high }
     ensures kept { Reads S.Pages space.old space.new }
     ensures refusal { RefusesTree S.Pages space.old space.new result }
 {
@@ -236,6 +239,7 @@ pub fn range<S: Pages>(
     requires { S.Pages.refusal space.old ≡ None }
     ensures found { FindsRange S.Pages space.old space.new root low high result }
     ensures damage { NamesDamage S.Pages space.old space.new root 20 result }
+    ensures adds { AddsOfRange S.Pages space.old space.new root (rank low) (rank high) }
     ensures kept { Reads S.Pages space.old space.new }
     ensures refusal { RefusesTree S.Pages space.old space.new result }
 {

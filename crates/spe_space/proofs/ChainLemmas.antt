@@ -105,12 +105,3 @@ pub rest_amiss : {P : Type 0} (g : Ghosts P) (early now : P) (first len : ℕ) (
     → (pages : Paging) → Agrees pages (g.seen now) → IsChain (g.used early) (sight g early pages) len first → ⊥
 rest_amiss g early now first len old done left page rest amiss pages agrees chain =
     let h = rest pages agrees chain in links_well (g.used early) (sight g early pages) h.count left page h.chain amiss
-
-pub reads_both : {P : Type 0} (g : Ghosts P) (a b c : P) → Reads g a b → Reads g b c → Reads g a c
-reads_both g a b c first second = record {
-  earlier = λ pages agrees. first.earlier pages (second.earlier pages agrees);
-  laid = second.laid ∙ first.laid;
-  size = second.size ∙ first.size;
-  used = second.used ∙ first.used;
-  count = second.count ∙ first.count;
-}

@@ -1,6 +1,6 @@
 use Rattle.std.proofs.Common.{◌≡◌, ℕ, zero, suc, ◌<◌, ◌-◌, ◌≢◌, ◌⊎◌, ◌∙◌, List, [], ◌∷◌, length, get_or, set, Option, None, Some, IfSome, true, false, refl, sym, ap, subst, arith, inl, inr}
 use Rattle.std.proofs.lemmas.Bool.{cases_Bool, cases_eq}
-use Rattle.spe_space.specs.declared.map.Slot.{Slot}
+use Rattle.spe_space.specs.declared.slot.Slot.{Slot}
 use Rattle.spe_space.specs.Slots.{in_slots, seen_of, laid_of}
 use Rattle.spe_model.specs.Paging.{Paging, PageMap, Agrees, lay}
 

@@ -1,6 +1,7 @@
 use Rattle.std.proofs.Common.{◌∙◌, drop, arith}
 use Rattle.std.proofs.lemmas.Grind.{common_steps}
 use Rattle.std.proofs.lemmas.List.{drop_more}
+use Rattle.spe_search.proofs.AddsLemmas.{adds_visit, adds_child}
 use Rattle.spe_search.proofs.FoundLemmas.{reads_twice}
 use Rattle.spe_search.proofs.WalkLemmas.{walked_first, walked_more, walked_fault, walked_names, walked_rest, walked_end}
 use Rattle.spe_search.proofs.rows.+walk.Goals as goal
@@ -13,6 +14,7 @@ loop-left-init g t c = record {
   spare = omega (arith, c.visit.auto.spare, c.requires.spare);
   walked = walked_first g.S.Pages c.args.space.now c.visit.new.space c.args.page c.args.low c.args.high c.args.levels c.args.out.now c.visit.new.out c.in-Ok.children _
       c.as_slice-left.ensures.value c.in-Ok.ensures.visits c.in-Ok.ensures.damage;
+  adds = adds_visit g.S.Pages c.args.space.now c.visit.new.space c.args.page c.args.low c.args.high c.in-Ok.ensures.adds;
 }
 
 pub returns-in-Err-walk-clause-rows : goal.returns-in-Err-walk-clause-rows
@@ -25,6 +27,14 @@ returns-in-Err-walk-clause-damage g t c =
     walked_names g.S.Pages c.args.space.now c.loop-left.space c.walk.new.space c.args.page c.args.low c.args.high c.args.levels _ c.in-Err-walk.fault c.args.out.now c.loop-left.out _ _ (omega arith)
     c.loop-left.invariant.kept c.in-Err-walk.ensures.kept (drop_more c.loop-left.left.now 0 _ (omega (arith, c.in-len1-up.len_at_least))) c.loop-left.invariant.walked c.in-Err-walk.ensures.damage
 
+pub returns-in-Err-clause-adds : goal.returns-in-Err-clause-adds
+returns-in-Err-clause-adds g t c = adds_visit g.S.Pages c.args.space.now c.visit.new.space c.args.page c.args.low c.args.high c.in-Err.ensures.adds
+
+pub returns-in-Err-walk-clause-adds : goal.returns-in-Err-walk-clause-adds
+returns-in-Err-walk-clause-adds g t c =
+    adds_child g.S.Pages c.args.space.now c.loop-left.space c.walk.new.space c.args.page c.args.low c.args.high c.args.levels _ c.args.out.now c.loop-left.out _ _
+    c.loop-left.invariant.kept c.in-Err-walk.ensures.kept (drop_more c.loop-left.left.now 0 _ (omega (arith, c.in-len1-up.len_at_least))) c.loop-left.invariant.walked c.loop-left.invariant.adds c.in-Err-walk.ensures.adds
+
 pub loop-left-preserved : goal.loop-left-preserved
 loop-left-preserved g t c = record {
   kept = reads_twice g.S.Pages c.args.space.now c.loop-left.space c.walk.new.space c.loop-left.invariant.kept c.in-Ok-walk.ensures.kept;
@@ -34,6 +44,8 @@ loop-left-preserved g t c = record {
   walked = walked_rest g.S.Pages c.args.space.now c.walk.new.space c.args.page c.args.low c.args.high c.args.levels c.args.out.now c.walk.new.out (drop 1 c.loop-left.left.now) _ (grind (arith, common_steps))
       (walked_more g.S.Pages c.args.space.now c.loop-left.space c.walk.new.space c.args.page c.args.low c.args.high c.args.levels _ c.args.out.now c.loop-left.out c.walk.new.out _ _
       c.loop-left.invariant.kept c.in-Ok-walk.ensures.kept (drop_more c.loop-left.left.now 0 _ (omega (arith, c.in-len1-up.len_at_least))) c.loop-left.invariant.walked c.in-Ok-walk.ensures.rows);
+  adds = adds_child g.S.Pages c.args.space.now c.loop-left.space c.walk.new.space c.args.page c.args.low c.args.high c.args.levels _ c.args.out.now c.loop-left.out _ _
+      c.loop-left.invariant.kept c.in-Ok-walk.ensures.kept (drop_more c.loop-left.left.now 0 _ (omega (arith, c.in-len1-up.len_at_least))) c.loop-left.invariant.walked c.loop-left.invariant.adds c.in-Ok-walk.ensures.adds;
 }
 
 pub returns-clause-rows : goal.returns-clause-rows

@@ -1,6 +1,6 @@
 use Rattle.std.proofs.Common.{◌≡◌, length}
 use Rattle.spe_space.specs.Calls.{Reads}
-use Rattle.spe_search.specs.Range.{HasWalked}
+use Rattle.spe_search.specs.Range.{HasWalked, AddsOfRange}
 use Rattle.spe_search.proofs.rows.+walk.Given as goal
 
 abbrev pub decreases-walk : goal.decreases-walk
@@ -13,6 +13,7 @@ invariant-loop-left g l = record {
   buf : length l.buf ≡ g.S.Pages.size l.fn.space;
   spare : length l.spare ≡ g.S.Pages.size l.fn.space;
   walked : HasWalked g.S.Pages l.fn.space l.space l.page l.low l.high l.levels l.fn.out l.out l.left;
+  adds : AddsOfRange g.S.Pages l.fn.space l.space l.page l.low l.high;
 }
 
 abbrev pub decreases-loop-left : goal.decreases-loop-left

@@ -1,4 +1,4 @@
-use Rattle.std.proofs.Common.{◌≡◌, ◌&&◌, ◌∙◌, leb, sym, ap, arith, inl, refl}
+use Rattle.std.proofs.Common.{◌≡◌, ℕ, Bool, ◌&&◌, ◌∙◌, leb, sym, ap, arith, inl, refl}
 use Rattle.spe_model.specs.Tree.{rank}
 use Rattle.spe_format.specs.View.{cell_seen}
 use Rattle.spe_search.proofs.PlaceLemmas.{hole_there}
@@ -25,15 +25,20 @@ returns-in-Err-clause-damage g c =
     damage_row (Unit {0}) (Unit {0}) g.S.Pages c.args.space.now c.loop-index.space c.push_row.new.space c.args.page c.args.view.now.cells c.loop-index.index (cell_seen c.in-Some.parts) c.in-Err.fault
     c.loop-index.invariant.kept c.in-Some.ensures c.in-Err.ensures.damage
 
+same_within : (low high key rank_key : ℕ) (inside : Bool) → inside ≡ (leb low key && leb key high) → key ≡ rank_key → inside ≡ (leb low rank_key && leb rank_key high)
+same_within low high key rank_key inside e same = e ∙ ap (λ k. leb low k && leb k high) same
+
 pub returns-in-Err-clause-adds : goal.returns-in-Err-clause-adds
 returns-in-Err-clause-adds g c =
-    adds_row_more g.S.Pages c.args.space.now c.loop-index.space c.push_row.new.space c.args.view.now.cells c.loop-index.index (cell_seen c.in-Some.parts)
-    c.loop-index.invariant.kept c.in-Err.ensures.kept c.in-Some.ensures c.loop-index.invariant.adds c.in-Err.ensures.adds
+    adds_row_more g.S.Pages c.args.space.now c.loop-index.space c.push_row.new.space c.args.view.now.cells c.args.low c.args.high c.loop-index.index (cell_seen c.in-Some.parts)
+    c.loop-index.invariant.kept c.in-Err.ensures.kept c.in-Some.ensures
+    (sym (same_within c.args.low c.args.high c.key_of.result (rank c.in-Some.parts.key) c.is_within.result c.is_within.ensures c.key_of.ensures) ∙ c.if-is_within.true)
+    c.loop-index.invariant.adds c.in-Err.ensures.adds
 
 pub loop-index-preserved : goal.loop-index-preserved
 loop-index-preserved g c =
     let cell = cell_seen c.in-Some.parts in
-    let same : c.is_within.result ≡ (leb c.args.low (rank c.in-Some.parts.key) && leb (rank c.in-Some.parts.key) c.args.high) = c.is_within.ensures ∙ ap (λ k. leb c.args.low k && leb k c.args.high) c.key_of.ensures in
+    let same = same_within c.args.low c.args.high c.key_of.result (rank c.in-Some.parts.key) c.is_within.result c.is_within.ensures c.key_of.ensures in
     elim c.if-is_within.branch [
       | then-is_within+in-Ok w ↦ rw (w.space-is, w.buf-is, w.out-is) (record {
         within = omega (arith, c.loop-index-test.true);
@@ -43,8 +48,8 @@ loop-index-preserved g c =
         pushed = pushed_more (Unit {0}) tt g.S.Pages c.args.space.now c.loop-index.space w.push_row.new.space c.args.view.now.cells c.args.low c.args.high c.loop-index.index cell
             c.args.out.now c.loop-index.out w.push_row.new.out c.loop-index.invariant.kept w.in-Ok.ensures.kept c.loop-index.invariant.pushed c.in-Some.ensures
             (omega (arith, c.loop-index-test.true, c.count-count.ensures)) (sym same ∙ w.if-is_within.true) w.in-Ok.ensures.rows;
-        adds = adds_row_more g.S.Pages c.args.space.now c.loop-index.space w.push_row.new.space c.args.view.now.cells c.loop-index.index cell
-            c.loop-index.invariant.kept w.in-Ok.ensures.kept c.in-Some.ensures c.loop-index.invariant.adds w.in-Ok.ensures.adds;
+        adds = adds_row_more g.S.Pages c.args.space.now c.loop-index.space w.push_row.new.space c.args.view.now.cells c.args.low c.args.high c.loop-index.index cell
+            c.loop-index.invariant.kept w.in-Ok.ensures.kept c.in-Some.ensures (sym same ∙ w.if-is_within.true) c.loop-index.invariant.adds w.in-Ok.ensures.adds;
       })
       | else-is_within w ↦ rw (w.space-is, w.buf-is, w.out-is) (record {
         within = omega (arith, c.loop-index-test.true);

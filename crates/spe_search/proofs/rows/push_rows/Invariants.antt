@@ -10,7 +10,7 @@ invariant-loop-index g l = record {
   refusal : g.S.Pages.refusal l.space ≡ g.S.Pages.refusal l.fn.space;
   buf : length l.buf ≡ g.S.Pages.size l.fn.space;
   pushed : HasPushed g.S.Pages l.fn.space l.space l.view.cells l.low l.high l.index l.fn.out l.out;
-  adds : AddsOfRows g.S.Pages l.fn.space l.space l.view.cells;
+  adds : AddsOfRows g.S.Pages l.fn.space l.space l.view.cells l.low l.high;
 }
 
 abbrev pub decreases-loop-index : goal.decreases-loop-index

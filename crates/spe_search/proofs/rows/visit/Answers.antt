@@ -1,5 +1,6 @@
 use Rattle.spe_space.specs.Calls.{sight}
 use Rattle.spe_search.proofs.StepLemmas.{legal_same, shown_same, visit_of, visit_cause}
+use Rattle.spe_search.proofs.AddsLemmas.{visit_adds}
 use Rattle.spe_search.proofs.rows.visit.Goals as goal
 
 pub returns-clause-visits : goal.returns-clause-visits
@@ -19,3 +20,10 @@ returns-clause-damage g c = λ pages agrees.
     (legal_same _ _ _ _ _ _ c.in-Ok.view c.usable-usable.ensures.value bytes c.header_of.ensures.value c.in-Ok.ensures.legal)
     (shown_same _ _ _ _ _ _ c.in-Ok.view c.usable-usable.ensures.value bytes c.header_of.ensures.value c.in-Ok.ensures.shown)
     (rw (c.in_ok-get.ensures.used, c.in_ok-get.ensures.laid) at (c.look.ensures.damage pages agrees))
+
+pub returns-clause-adds : goal.returns-clause-adds
+returns-clause-adds g c =
+    visit_adds g.S.Pages c.args.space.now c.get.new.self c.look.new.space c.args.page c.args.low c.args.high c.in-Ok.view c.in_ok-get.ensures.used c.in_ok-get.ensures.laid c.in_ok-get.ensures.only
+    (λ pages agrees. legal_same _ _ _ _ _ _ c.in-Ok.view c.usable-usable.ensures.value (c.in_ok-get.ensures.ok pages (c.look.ensures.kept.earlier pages agrees)) c.header_of.ensures.value c.in-Ok.ensures.legal)
+    (λ pages agrees. shown_same _ _ _ _ _ _ c.in-Ok.view c.usable-usable.ensures.value (c.in_ok-get.ensures.ok pages (c.look.ensures.kept.earlier pages agrees)) c.header_of.ensures.value c.in-Ok.ensures.shown)
+    c.look.ensures.adds

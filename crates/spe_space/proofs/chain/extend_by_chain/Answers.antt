@@ -1,5 +1,6 @@
 use Rattle.std.proofs.Common.{◌-◌, ◌∙◌, ap, min, arith}
-use Rattle.spe_space.proofs.ChainLemmas.{reads_both, has_rest_more, has_place_more, adds_more, rest_amiss, rest_end}
+use Rattle.spe_space.specs.Calls.{reads_both}
+use Rattle.spe_space.proofs.ChainLemmas.{has_rest_more, has_place_more, adds_more, rest_amiss, rest_end}
 use Rattle.spe_space.proofs.chain.extend_by_chain.Goals as goal
 
 pub returns-then-is_amiss-2-clause-found : goal.returns-then-is_amiss-2-clause-found

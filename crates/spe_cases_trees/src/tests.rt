@@ -1,0 +1,5 @@
+mod faults;
+mod files;
+mod long;
+mod space;
+mod tables;

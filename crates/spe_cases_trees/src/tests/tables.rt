@@ -1,0 +1,125 @@
+//! Every search over every tree.
+
+ghost use Rattle.std.specs.Prelude.{◌≡◌, IfOk, None};
+ghost use Rattle.spe_space.specs.View.{map_refusal};
+
+use crate::tests::files::{File, TABLES, Table};
+use crate::tests::space::{Filling, lay};
+use spe_model::Bytes;
+use spe_search::{Pair, find, largest, range};
+use spe_space::{MapSpace, TreeFault};
+use std::alloc::{AllocError, Global};
+use std::process::Abort;
+use std::test::Fail;
+
+fn page_of(alloc: Global, file: &File, page: u32) -> Result<Vec<u8>, AllocError> {
+    let size = if file.large { 65536 } else { 512 };
+    let mut bytes = vec![in alloc; 0u8; size]?;
+    for (of, at, patch) in file.patches {
+        if *of == page {
+            lay(&mut bytes, *at, *patch);
+        }
+    }
+    Ok(bytes)
+}
+
+/// The pages of a file, none of which was given.
+pub fn space_of(alloc: Global, file: &File) -> Result<MapSpace, AllocError>
+    ensures { IfOk result (λ s. map_refusal s ≡ None) }
+{
+    let mut filling = Filling::new(alloc, file.large, file.pages)?;
+    for page in 1..=file.pages {
+        let bytes = page_of(alloc, file, page)?;
+        filling.load(page, &bytes);
+    }
+    Ok(filling.into_space())
+}
+
+fn is_row(pair: &Pair, row: &(i64, &[u8])) -> bool {
+    pair.rowid == row.0 && pair.payload.as_slice() == row.1
+}
+
+fn are_rows(pairs: &[Pair], rows: &[(i64, &[u8])]) -> bool {
+    pairs.len() == rows.len() && pairs.iter().zip(rows).all(|(pair, row)| is_row(pair, row))
+}
+
+/// Whether a row was answered with this payload, or that there is none.
+pub fn is_found(answer: Result<Option<Bytes>, TreeFault>, payload: Option<&[u8]>) -> bool {
+    match (answer, payload) {
+        (Ok(Some(bytes)), Some(payload)) => bytes.as_slice() == payload,
+        (Ok(None), None) => true,
+        _ => false,
+    }
+}
+
+fn expect_found(
+    rt: &impl Abort,
+    alloc: Global,
+    table: &Table,
+    rowid: i64,
+    payload: Option<&[u8]>,
+) -> Result<(), AllocError> {
+    let mut space = space_of(alloc, &table.file)?;
+    let answer = find(alloc, &mut space, table.root, rowid);
+    assert!(rt; is_found(answer, payload), "{rowid} in {}", table.name);
+    Ok(())
+}
+
+fn expect_range(
+    rt: &impl Abort,
+    alloc: Global,
+    table: &Table,
+    low: i64,
+    high: i64,
+    rows: &[(i64, &[u8])],
+) -> Result<(), AllocError> {
+    let mut space = space_of(alloc, &table.file)?;
+    match range(alloc, &mut space, table.root, low, high) {
+        Ok(pairs) => {
+            assert!(rt;
+                are_rows(pairs.as_slice(), rows),
+                "{low} to {high} in {}",
+                table.name
+            )
+        }
+        Err(fault) => assert!(rt; false, "{fault:?} from {low} to {high} in {}", table.name),
+    }
+    Ok(())
+}
+
+fn expect_largest(rt: &impl Abort, alloc: Global, table: &Table) -> Result<(), AllocError> {
+    let mut space = space_of(alloc, &table.file)?;
+    let last = table.rows.last().map(|row| row.0);
+    assert_eq!(rt;
+        largest(alloc, &mut space, table.root),
+        Ok(last),
+        "{}",
+        table.name
+    );
+    Ok(())
+}
+
+fn expect_table(rt: &impl Abort, alloc: Global, table: &Table) -> Result<(), AllocError> {
+    expect_range(rt, alloc, table, i64::MIN, i64::MAX, table.rows)?;
+    expect_largest(rt, alloc, table)?;
+    for (rowid, payload) in table.rows {
+        expect_found(rt, alloc, table, *rowid, Some(*payload))?;
+    }
+    for rowid in table.gaps {
+        expect_found(rt, alloc, table, *rowid, None)?;
+    }
+    for (low, high, from, to) in table.parts {
+        let rows = table.rows.get(*from..*to).unwrap_or(&[]);
+        assert_eq!(rt; rows.len(), to.wrapping_sub(*from));
+        expect_range(rt, alloc, table, *low, *high, rows)?;
+    }
+    Ok(())
+}
+
+#[test]
+fn tables(rt: HostRuntime) -> Result<(), Fail> {
+    for table in &TABLES {
+        expect_table(&rt, rt.alloc(), table)?;
+    }
+    Ok(())
+}
