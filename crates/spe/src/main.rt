@@ -1,12 +1,8 @@
 //! The program: the words of its command line, the real files and standard output, and the top call.
 #![tactic(auto)]
 
-mod files;
-mod output;
-
-use files::FileDisk;
-use output::{NoScripts, OutSink};
 use spe_disk::OpenGate;
+use spe_files::{FileDisk, FileScripts, OutSink};
 use spe_model::{Text, Words};
 use spe_serve::spe;
 use std::alloc::Global;
@@ -29,7 +25,7 @@ fn main(rt: HostRuntime) -> io::Result<ExitCode> {
         rt.alloc(),
         words,
         FileDisk::new(&rt, rt.alloc()),
-        &mut NoScripts::new(),
+        &mut FileScripts::new(&rt),
         &mut OutSink::new(&rt),
         &OpenGate,
     );

@@ -1,5 +1,6 @@
 mod files;
 mod journals;
 mod outside;
+mod real;
 mod rows;
 mod run;

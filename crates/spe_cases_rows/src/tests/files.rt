@@ -71,3 +71,8 @@ pub const SIGNS: [Patch; 7] = [
         b"\x16\x01\x04\x00\x06!\x7f\xff\xff\xff\xff\xff\xff\xffna\xc3\xafve \xe2\x98\x83\x09\xff\xff\xff\xff\xff\xff\xff\xff\xfb\x04\x00\x01\x15\xffit's\x0d\x00\x00\x00\x00\x02",
     ),
 ];
+
+/// What is printed of the table `p` of that file.
+pub const SIGNS_ROWS: &str =
+    "-5|-5|-1|'it''s'\n1|1|9223372036854775807|'naïve ☃'\n2|2|-9223372036854775808|''\n\
+         3|3|0|'1'\n4|4|1|''''\n5|5|-32769|'a|b'\n9223372036854775807|9223372036854775807|NULL|NULL\nrows 7\n";

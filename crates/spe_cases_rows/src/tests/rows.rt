@@ -1,6 +1,6 @@
 //! What `rows` prints of files in memory.
 
-use super::files::{PEOPLE, SIGNS, file_of};
+use super::files::{PEOPLE, SIGNS, SIGNS_ROWS, file_of};
 use super::run::expect;
 use std::test::Fail;
 
@@ -15,18 +15,8 @@ fn people(rt: HostRuntime) -> Result<(), Fail> {
 
 // A table of the file with signs, and what is printed of it.
 static TABLES: [(&str, u8, &str); 5] = [
-    (
-        "p",
-        0,
-        "-5|-5|-1|'it''s'\n1|1|9223372036854775807|'naïve ☃'\n2|2|-9223372036854775808|''\n\
-         3|3|0|'1'\n4|4|1|''''\n5|5|-32769|'a|b'\n9223372036854775807|9223372036854775807|NULL|NULL\nrows 7\n",
-    ),
-    (
-        "P",
-        0,
-        "-5|-5|-1|'it''s'\n1|1|9223372036854775807|'naïve ☃'\n2|2|-9223372036854775808|''\n\
-         3|3|0|'1'\n4|4|1|''''\n5|5|-32769|'a|b'\n9223372036854775807|9223372036854775807|NULL|NULL\nrows 7\n",
-    ),
+    ("p", 0, SIGNS_ROWS),
+    ("P", 0, SIGNS_ROWS),
     ("Empty", 0, "rows 0\n"),
     ("eMPTY", 0, "rows 0\n"),
     ("q", 2, "refused no-table\n"),

@@ -1,5 +1,5 @@
 use Rattle.std.proofs.Common.{◌≤◌}
-use Rattle.spe.proofs.files.FileDisk.make_absent.Given as goal
+use Rattle.spe_files.proofs.open_files.OpenFiles.make_journals.Given as goal
 
 abbrev pub invariant-loop-number : goal.invariant-loop-number
 invariant-loop-number g l = l.made ≤ l.number

@@ -1,5 +1,5 @@
 use Rattle.std.proofs.Common.{◌≤◌, ◌-◌, length}
-use Rattle.spe.proofs.files.fill.Given as goal
+use Rattle.spe_files.proofs.open_files.fill.Given as goal
 
 abbrev pub invariant-loop-done : goal.invariant-loop-done
 invariant-loop-done l = l.done ≤ length l.buf

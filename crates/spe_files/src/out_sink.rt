@@ -1,7 +1,6 @@
-//! Standard output, and no scripts.
+//! Standard output.
 
-use spe_disk::{Failed, ScriptFault, Scripts, Sink};
-use std::alloc::Global;
+use spe_disk::{Failed, Sink};
 use std::io::{self, Write};
 
 /// Standard output. It does not tell what it took.
@@ -33,31 +32,5 @@ impl<R: Print> Sink for OutSink<'_, R> {
                 Err(Failed)
             }
         }
-    }
-}
-
-/// No scripts: no command reads one yet.
-#[derive(Drop)]
-pub struct NoScripts {
-    faults: u64,
-}
-
-impl NoScripts {
-    /// No scripts.
-    pub fn new() -> Self {
-        NoScripts { faults: 0 }
-    }
-}
-
-impl Scripts for NoScripts {
-    ghost use Rattle.std.specs.Prelude.{None};
-
-    ghost texts = { λ _. None };
-
-    ghost faults = { λ s. s.faults };
-
-    fn read(&mut self, _alloc: Global, _name: &str) -> Result<Option<Vec<u8>>, ScriptFault> {
-        self.faults = self.faults.saturating_add(1);
-        Err(ScriptFault::Failed)
     }
 }

@@ -1,0 +1,143 @@
+-- Tokens, one after the other.
+use Rattle.std.proofs.Common.{◌≡◌, ℕ, zero, suc, ◌+◌, ◌-◌, ◌<◌, ◌≤◌, List, [], ◌∷◌, ◌++◌, length, take, drop, map, Option, Some, None, Result, Ok, Err, refl, sym, ◌∙◌, ap, subst, arith, append_assoc, append-nil, length-take}
+use Rattle.spe_model.specs.declared.token.TokenKind.{TokenKind}
+use Rattle.spe_model.specs.declared.token.Token.{Token}
+use Rattle.spe_model.specs.declared.token.SqlFault.{SqlFault}
+use Rattle.spe_model.specs.declared.token.SqlKind.TheVariants as faults
+use Rattle.spe_model.specs.Token.{Lexeme, Piece, piece_of, map_ok, behind, lexemes_from, lexemes_of, token_of, AreSpans}
+use Rattle.spe_lex.specs.Piece.{piece_at}
+use Rattle.spe_lex.specs.Lexed.{standing}
+use Rattle.spe_lex.proofs.PieceLemmas.{IsPiece, Holds, pieces}
+
+abbrev pub Lexing : Type 0
+Lexing = Result (List Lexeme) SqlFault
+
+abbrev pub all_read : List Lexeme → Lexing
+all_read xs = Ok xs
+
+-- what is read, behind what was read before
+abbrev pub ahead : List Lexeme → Lexing → Lexing
+ahead xs reading = map_ok (λ ys. xs ++ ys) reading
+
+pub ahead_nothing : (reading : Lexing) → ahead [] reading ≡ reading
+ahead_nothing (Ok ys) = refl
+ahead_nothing (Err fault) = refl
+
+ahead_more : (xs ys : List Lexeme) (reading : Lexing) → ahead (xs ++ ys) reading ≡ ahead xs (ahead ys reading)
+ahead_more xs ys (Ok zs) = ap all_read (append_assoc xs ys zs)
+ahead_more xs ys (Err fault) = refl
+
+passed_all : (n at : ℕ) (text : List ℕ) → lexemes_from at n text ≡ lexemes_from (at + n) 0 (drop n text)
+passed_all zero at text = let e : at + 0 ≡ at = omega arith in rw e refl
+passed_all (suc n) at [] = refl
+passed_all (suc n) at (b ∷ rest) =
+    let e : at + suc n ≡ at + 1 + n = omega arith in
+    rw e (passed_all n (at + 1) rest)
+
+drop_by : (b : ℕ) (rest : List ℕ) (n m : ℕ) → n ≡ suc m → drop n (b ∷ rest) ≡ drop m rest
+drop_by b rest n m e = rw e refl
+
+drop_one : (b : ℕ) (rest : List ℕ) (n : ℕ) → 0 < n → drop n (b ∷ rest) ≡ drop (n - 1) rest
+drop_one b rest n some = drop_by b rest n (n - 1) (omega arith)
+
+next_from : (at n b : ℕ) (rest : List ℕ) → 0 < n → lexemes_from (at + 1) (n - 1) rest ≡ lexemes_from (at + n) 0 (drop n (b ∷ rest))
+next_from at n b rest some =
+    let e : at + 1 + (n - 1) ≡ at + n = omega arith in
+    passed_all (n - 1) (at + 1) rest ∙ rw (e, drop_one b rest n some) refl
+
+abbrev pub a_piece : Option TokenKind → ℕ → Option Piece
+a_piece kind n = Some (kind, n)
+
+turn : (at : ℕ) (left : List ℕ) (kind : Option TokenKind) (n : ℕ) → piece_at left ≡ a_piece kind n → 0 < n
+    → lexemes_from at 0 left ≡ ahead (standing kind at (take n left)) (lexemes_from (at + n) 0 (drop n left))
+turn at [] kind n e some = absurd cc
+turn at (b ∷ rest) None n e some =
+    ap (λ (o : Option Piece). behind at (b ∷ rest) o (λ m. lexemes_from (at + 1) m rest)) e
+    ∙ (next_from at n b rest some ∙ sym (ahead_nothing (lexemes_from (at + n) 0 (drop n (b ∷ rest)))))
+turn at (b ∷ rest) (Some kind) n e some =
+    ap (λ (o : Option Piece). behind at (b ∷ rest) o (λ m. lexemes_from (at + 1) m rest)) e
+    ∙ ap (map_ok (λ xs. record { kind = kind; at = at; text = take n (b ∷ rest) } ∷ xs)) (next_from at n b rest some)
+
+-- a turn of the loop
+pub loop_turn : (found : List Lexeme) (at : ℕ) (left : List ℕ) (kind : Option TokenKind) (n : ℕ) (all : Lexing) → piece_at left ≡ a_piece kind n → 0 < n
+    → ahead found (lexemes_from at 0 left) ≡ all
+    → ahead (found ++ standing kind at (take n left)) (lexemes_from (at + n) 0 (drop n left)) ≡ all
+loop_turn found at left kind n all e some same =
+    ahead_more found (standing kind at (take n left)) (lexemes_from (at + n) 0 (drop n left)) ∙ (ap (ahead found) (sym (turn at left kind n e some)) ∙ same)
+
+-- its end
+pub loop_end : (found : List Lexeme) (at : ℕ) (left : List ℕ) (all : Lexing) → length left ≡ 0 → ahead found (lexemes_from at 0 left) ≡ all → all ≡ all_read found
+loop_end found at [] all e same = sym same ∙ ap all_read (append-nil found)
+loop_end found at (b ∷ rest) all e same = absurd (omega arith)
+
+abbrev no_piece : Option Piece
+no_piece = None
+
+abbrev pub no_token : ℕ → SqlFault
+no_token at = record { at = at; kind = faults.Token }
+
+-- its stop
+pub loop_stop : (found : List Lexeme) (at : ℕ) (left : List ℕ) (all : Lexing) → 0 < length left → piece_at left ≡ no_piece → ahead found (lexemes_from at 0 left) ≡ all
+    → all ≡ Err (no_token at)
+loop_stop found at [] all some e same = absurd (omega arith)
+loop_stop found at (b ∷ rest) all some e same =
+    sym same ∙ ap (ahead found) (ap (λ (o : Option Piece). behind at (b ∷ rest) o (λ m. lexemes_from (at + 1) m rest)) e)
+
+-- what is known of the piece at the front
+pub front_piece : (left : List ℕ) (kind : Option TokenKind) (n : ℕ) → piece_at left ≡ a_piece kind n → IsPiece left kind n
+front_piece [] kind n e = absurd cc
+front_piece (b ∷ rest) kind n e = subst (Holds b rest) e (pieces b rest)
+
+-- tokens that begin later
+sooner : (low later high : ℕ) (ts : List Token) → low ≤ later → AreSpans later high ts → AreSpans low high ts
+sooner low later high [] l spans = omega arith
+sooner low later high (t ∷ ts) l spans = (omega (arith, spans.0), spans.1, spans.2)
+
+abbrev Spans : ℕ → ℕ → List ℕ → Lexing → Type 0
+Spans low at text (Ok xs) = AreSpans low (at + length text) (map token_of xs)
+Spans low at text (Err fault) = Unit {0}
+
+spans_sooner : (low later at : ℕ) (text : List ℕ) (reading : Lexing) → low ≤ later → Spans later at text reading → Spans low at text reading
+spans_sooner low later at text (Ok xs) l spans = sooner low later (at + length text) (map token_of xs) l spans
+spans_sooner low later at text (Err fault) l spans = tt
+
+spans_shift : (low at : ℕ) (b : ℕ) (rest : List ℕ) (reading : Lexing) → Spans low (at + 1) rest reading → Spans low at (b ∷ rest) reading
+spans_shift low at b rest (Ok xs) spans =
+    let e : at + 1 + length rest ≡ at + length (b ∷ rest) = omega arith in
+    subst (λ (high : ℕ). AreSpans low high (map token_of xs)) e spans
+spans_shift low at b rest (Err fault) spans = tt
+
+spans_token : (at n : ℕ) (kind : TokenKind) (text : List ℕ) (reading : Lexing) → 0 < n → n ≤ length text → Spans (at + n) at text reading
+    → Spans at at text (map_ok (λ xs. record { kind = kind; at = at; text = take n text } ∷ xs) reading)
+spans_token at n kind text (Ok xs) some within spans =
+    let len : length (take n text) ≡ n = omega (arith, length-take n text) in
+    (omega arith, omega (arith, len), rw len spans)
+spans_token at n kind text (Err fault) some within spans = tt
+
+spans_behind : (at : ℕ) (b : ℕ) (rest : List ℕ) (o : Option Piece) (others : ℕ → Lexing) → Holds b rest o
+    → ((n : ℕ) → n ≤ length rest → Spans (at + 1 + n) (at + 1) rest (others n)) → Spans at at (b ∷ rest) (behind at (b ∷ rest) o others)
+spans_behind at b rest None others holds each = tt
+spans_behind at b rest (Some (None, n)) others holds each =
+    spans_sooner at (at + 1 + (n - 1)) at (b ∷ rest) (others (n - 1)) (omega arith)
+    (spans_shift (at + 1 + (n - 1)) at b rest (others (n - 1)) (each (n - 1) (omega (arith, holds.ends.within))))
+spans_behind at b rest (Some (Some kind, n)) others holds each =
+    spans_token at n kind (b ∷ rest) (others (n - 1)) holds.ends.some holds.ends.within
+    (spans_sooner (at + n) (at + 1 + (n - 1)) at (b ∷ rest) (others (n - 1)) (omega (arith, holds.ends.some))
+    (spans_shift (at + 1 + (n - 1)) at b rest (others (n - 1)) (each (n - 1) (omega (arith, holds.ends.within)))))
+
+spans_from : (text : List ℕ) (at passed : ℕ) → passed ≤ length text → Spans (at + passed) at text (lexemes_from at passed text)
+spans_from [] at passed l = omega arith
+spans_from (b ∷ rest) at zero l =
+    let e : at ≡ at + 0 = omega arith in
+    subst (λ (low : ℕ). Spans low at (b ∷ rest) (lexemes_from at 0 (b ∷ rest))) e
+    (spans_behind at b rest (piece_of b rest) (λ n. lexemes_from (at + 1) n rest) (pieces b rest) (λ n m. spans_from rest (at + 1) n m))
+spans_from (b ∷ rest) at (suc passed) l =
+    let e : at + 1 + passed ≡ at + suc passed = omega arith in
+    subst (λ (low : ℕ). Spans low at (b ∷ rest) (lexemes_from (at + 1) passed rest)) e
+    (spans_shift (at + 1 + passed) at b rest (lexemes_from (at + 1) passed rest) (spans_from rest (at + 1) passed (omega arith)))
+
+-- the tokens of a text are spans of it
+pub spans_of : (text : List ℕ) (xs : List Lexeme) → lexemes_of text ≡ all_read xs → AreSpans 0 (length text) (map token_of xs)
+spans_of text xs e =
+    let whole : 0 + length text ≡ length text = omega arith in
+    subst (λ (high : ℕ). AreSpans 0 high (map token_of xs)) whole (subst (Spans 0 0 text) e (spans_from text 0 0 (omega arith)))

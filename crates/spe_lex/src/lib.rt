@@ -1,0 +1,14 @@
+//! Tokens of SQL text.
+//!
+//! A text is cut into its tokens, each the longest that stands there, or is refused at the first byte
+//! at which none does. Want of memory alone is free.
+#![tactic(auto)]
+
+mod lexeme;
+mod piece;
+mod quotes;
+mod reading;
+
+pub use lexeme::Lexeme;
+pub use reading::{lex, lexemes};
+pub use spe_model::{SqlFault, SqlKind, Token, TokenKind, Tokens};

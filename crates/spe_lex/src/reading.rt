@@ -1,0 +1,69 @@
+//! All tokens of a text.
+
+ghost use Rattle.std.specs.Prelude.{◌≡◌, ◌++◌, IfOk, IfSome, OnOk, map, length};
+ghost use Rattle.spe_model.specs.Token.{token_of, tokens_of, lexemes_of, AreSpans};
+ghost use Rattle.spe_lex.specs.Lexed.{Gives, IsSound, standing};
+
+use crate::lexeme::Lexeme;
+use crate::piece::piece;
+use spe_model::{SqlFault, SqlKind, Token, TokenKind, Tokens};
+use std::alloc::{AllocError, Global};
+
+// Adds the token that a piece is, where it is one.
+fn push<'a>(
+    found: &mut Vec<Lexeme<'a>>,
+    kind: Option<TokenKind>,
+    at: u64,
+    text: &'a str,
+) -> Result<(), AllocError>
+    requires { IfSome kind (λ k. IsSound k text.now) }
+    ensures { OnOk result (found.new.items ≡ found.old.items ++ standing kind at text.now) }
+{
+    if let Some(kind) = kind {
+        found.push(Lexeme::new(kind, at, text))?;
+    }
+    Ok(())
+}
+
+/// The tokens of a text with their bytes, in the order of their places.
+///
+/// The fault is at the first byte at which no token, blank or comment stands.
+pub fn lexemes(alloc: Global, text: &str) -> Result<Vec<Lexeme<'_>>, SqlFault>
+    ensures { Gives (λ v. v.items) result (lexemes_of text.now) }
+{
+    let mut found = Vec::new(alloc);
+    let mut left = text;
+    let mut at = 0;
+    while !left.is_empty() {
+        let Some((kind, len)) = piece(left.as_bytes()) else {
+            return Err(SqlFault {
+                at,
+                kind: SqlKind::Token,
+            });
+        };
+        let (front, rest) = left.split_at(len);
+        push(&mut found, kind, at, front)?;
+        at += len as u64;
+        left = rest;
+    }
+    Ok(found)
+}
+
+fn tokens(alloc: Global, lexemes: &[Lexeme<'_>]) -> Result<Vec<Token>, AllocError>
+    ensures { IfOk result (λ v. v.items ≡ map token_of lexemes.now) }
+{
+    lexemes.iter().map(|lexeme| lexeme.token()).collect(alloc)
+}
+
+/// The tokens of a text, by their places.
+///
+/// The fault is as of `lexemes`.
+pub fn lex(alloc: Global, text: &str) -> Result<Tokens, SqlFault>
+    ensures tokens { Gives (λ t. t) result (tokens_of text.now) }
+    ensures spans { IfOk result (AreSpans 0 (length text.now)) }
+{
+    match lexemes(alloc, text) {
+        Ok(found) => Ok(Tokens::new(tokens(alloc, found.as_slice())?)),
+        Err(fault) => Err(fault),
+    }
+}
