@@ -1,3 +1,5 @@
+mod core;
+mod events;
 mod faults;
 mod files;
 mod journals;

@@ -1,0 +1,166 @@
+//! The words of command lines.
+
+use spe_model::{Names, Text, Words};
+use spe_words::{Command, WordsFault, read_words};
+use std::alloc::{AllocError, Global};
+use std::process::Abort;
+use std::test::Fail;
+
+// Words, and the command that they ask for, its numbers last.
+static LINES: [(&[&str], &str); 46] = [
+    (&[], "none"),
+    (&["rows", "A", "p"], "rows A p"),
+    (&["rows", "A"], "none"),
+    (&["rows", "A", "p", "q"], "none"),
+    (&["rows", "A", ""], "none"),
+    (&["", "rows", "A", "p"], "none"),
+    (&["rows", "-", "p"], "rows - p"),
+    (&["rows", "-A", "p"], "none"),
+    (&["rows", "--", "-A", "p"], "rows -A p"),
+    (&["rows", "A", "--", "--"], "rows A --"),
+    (&["rows", "A", "p", "--"], "rows A p"),
+    (&["rows", "--help", "p"], "none"),
+    (&["rows", "--workers", "4", "A", "p"], "none"),
+    (&["Rows", "A", "p"], "none"),
+    (&["row", "A", "p"], "none"),
+    (&["backup", "B", "C"], "none"),
+    (&["check", "A"], "check A"),
+    (&["check"], "none"),
+    (&["prepare", "A", "2"], "prepare A 2"),
+    (&["prepare", "A", "0000000016"], "prepare A 16"),
+    (&["prepare", "A", "00000000016"], "none"),
+    (&["prepare", "A", "17"], "none"),
+    (&["prepare", "A", "0"], "none"),
+    (&["prepare", "A", "+2"], "none"),
+    (&["prepare", "A", "2x"], "none"),
+    (&["release", "A"], "release A"),
+    (&["work", "W", "1", "100"], "work W 1 100"),
+    (
+        &["work", "W", "4294967295", "100000"],
+        "work W 4294967295 100000",
+    ),
+    (&["work", "W", "4294967296", "1"], "none"),
+    (&["work", "W", "1", "0"], "none"),
+    (&["run", "B", "s"], "run B s 4 1000 262144"),
+    (&["run", "B"], "none"),
+    (
+        &["run", "B", "--workers", "16", "s"],
+        "run B s 16 1000 262144",
+    ),
+    (&["run", "B", "--workers", "17", "s"], "none"),
+    (
+        &["run", "B", "--workers", "2", "--workers", "2", "s"],
+        "none",
+    ),
+    (&["run", "B", "--workers=2", "--workers", "2", "s"], "none"),
+    (
+        &["run", "--slots=16", "B", "s", "--retries=0", "t"],
+        "run B s,t 4 0 16",
+    ),
+    (&["run", "B", "s", "--slots", "17"], "none"),
+    (&["run", "B", "s", "--slots", "8"], "none"),
+    (&["run", "B", "s", "--slots", "524288"], "none"),
+    (&["run", "B", "s", "--retries", "1000001"], "none"),
+    (&["run", "B", "s", "--retries", "-1"], "none"),
+    (&["run", "B", "s", "--retries=-1"], "none"),
+    (&["run", "B", "s", "--worker", "2"], "none"),
+    (&["run", "B", "s", "--workers"], "none"),
+    (
+        &["run", "B", "--", "s", "--workers", "2"],
+        "run B s,--workers,2 4 1000 262144",
+    ),
+];
+
+fn words_of(alloc: Global, words: &[&str]) -> Result<Words, AllocError> {
+    let mut found = Vec::new(alloc);
+    for word in words {
+        found.push(Text::new(String::from_str(alloc, word)?))?;
+    }
+    Ok(Words::new(found))
+}
+
+fn joined(alloc: Global, names: &Names) -> Result<String, AllocError> {
+    let mut text = String::new(alloc);
+    for name in names.as_slice() {
+        if !text.is_empty() {
+            text.push(',')?;
+        }
+        text.push_str(name.as_str())?;
+    }
+    Ok(text)
+}
+
+// A command in one line.
+fn shown(alloc: Global, command: &Command) -> Result<String, AllocError> {
+    match command {
+        Command::Rows { db, table } => {
+            let (db, table) = (db.as_str(), table.as_str());
+            format!(in alloc; "rows {db} {table}")
+        }
+        Command::Check { db } => {
+            let db = db.as_str();
+            format!(in alloc; "check {db}")
+        }
+        Command::Prepare { db, lists } => {
+            let db = db.as_str();
+            format!(in alloc; "prepare {db} {lists}")
+        }
+        Command::Release { db } => {
+            let db = db.as_str();
+            format!(in alloc; "release {db}")
+        }
+        Command::Run {
+            db,
+            scripts,
+            workers,
+            retries,
+            slots,
+        } => {
+            let db = db.as_str();
+            let scripts = joined(alloc, scripts)?;
+            format!(in alloc; "run {db} {scripts} {workers} {retries} {slots}")
+        }
+        Command::Work { db, seed, count } => {
+            let db = db.as_str();
+            format!(in alloc; "work {db} {seed} {count}")
+        }
+    }
+}
+
+// The command of some words in one line, or `none`.
+fn read(alloc: Global, words: &[&str]) -> Result<String, AllocError> {
+    match read_words(alloc, &words_of(alloc, words)?) {
+        Ok(command) => shown(alloc, &command),
+        Err(WordsFault::Words) => String::from_str(alloc, "none"),
+        Err(WordsFault::Memory) => String::from_str(alloc, "memory"),
+    }
+}
+
+fn expect(rt: &impl Abort, alloc: Global, words: &[&str], text: &str) -> Result<(), AllocError> {
+    let found = read(alloc, words)?;
+    assert_eq!(rt; found.as_str(), text);
+    Ok(())
+}
+
+#[test]
+fn lines(rt: HostRuntime) -> Result<(), Fail> {
+    for (words, text) in &LINES {
+        expect(&rt, rt.alloc(), *words, *text)?;
+    }
+    Ok(())
+}
+
+#[test]
+fn sixty_four_scripts(rt: HostRuntime) -> Result<(), Fail> {
+    let mut words = Vec::new(rt.alloc());
+    words.push("run")?;
+    words.push("B")?;
+    for _ in 0..64 {
+        words.push("s")?;
+    }
+    let found = read(rt.alloc(), words.as_slice())?;
+    assert!(rt; found.as_str().starts_with("run B s,s,s,"));
+    words.push("s")?;
+    expect(&rt, rt.alloc(), words.as_slice(), "none")?;
+    Ok(())
+}

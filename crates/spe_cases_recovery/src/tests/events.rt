@@ -1,0 +1,124 @@
+//! Events of the core, written short.
+
+use super::files::{PAGE, lay, two};
+use spe_core::Event;
+use spe_model::Bytes;
+use sqlite_items::Boxed;
+use std::alloc::{AllocError, Global};
+
+/// What is written to a page.
+#[derive(Clone, Copy)]
+pub enum Filling {
+    /// Page 2 with one row.
+    Row,
+    /// Page 1 as it names so many pages.
+    Pages(u8),
+    /// Page 1 with another change counter, so that its number of pages does not count.
+    Uncounted,
+    /// Page 1 with another page size.
+    OtherFront,
+    /// A byte less than a page.
+    Short,
+}
+
+/// An event of transaction 0, or of the one named.
+#[derive(Clone, Copy)]
+pub enum Move {
+    Begin(u8),
+    Read(u32),
+    Open,
+    Journal(u32),
+    Write(u32, Filling),
+    Commit,
+    Undo,
+    Roll,
+    Stop,
+    /// A stop within the next event but one of these: opening a journal, a record of page 2, a row
+    /// on page 2, one operation of recovery, or beginning; after so many bytes.
+    StopIn(Next, u64),
+    Recover,
+    /// An event that is never enabled yet.
+    Never(u8),
+}
+
+/// What was to come next at a stop.
+#[derive(Clone, Copy)]
+pub enum Next {
+    Open,
+    Record,
+    Row,
+    Recover,
+    Begin,
+}
+
+fn page_of(alloc: Global, filling: Filling) -> Result<Bytes, AllocError> {
+    let mut page = two(alloc)?;
+    page.truncate(PAGE);
+    match filling {
+        Filling::Row => {
+            page = vec![in alloc; 0u8; PAGE]?;
+            lay(&mut page, 0, b"\x0d\x00\x00\x00\x01\x01\xfa\x00\x01\xfa");
+            lay(&mut page, 506, b"\x04\x01\x03\x00\x01\x0a");
+        }
+        Filling::Pages(pages) => lay(&mut page, 31, &[pages]),
+        Filling::Uncounted => lay(&mut page, 27, &[4]),
+        Filling::OtherFront => lay(&mut page, 16, &[4]),
+        Filling::Short => page.truncate(PAGE - 1),
+    }
+    Ok(Bytes::new(page))
+}
+
+fn next_of(alloc: Global, next: Next) -> Result<Event, AllocError> {
+    Ok(match next {
+        Next::Open => Event::OpenJournal { id: 0 },
+        Next::Record => Event::Journal { id: 0, page: 2 },
+        Next::Row => Event::WriteBytes {
+            id: 0,
+            page: 2,
+            bytes: page_of(alloc, Filling::Row)?,
+        },
+        Next::Recover => Event::RecoverOp,
+        Next::Begin => Event::Begin { id: 0 },
+    })
+}
+
+fn never(which: u8) -> Event {
+    match which {
+        0 => Event::GrantRead { id: 0, lock: 2 },
+        1 => Event::GrantWrite { id: 0, lock: 2 },
+        2 => Event::Release { id: 0, lock: 2 },
+        3 => Event::EnterReadOnly { reader: 1 },
+        4 => Event::FixSnapshot { reader: 1 },
+        5 => Event::ReadAt { reader: 1, page: 2 },
+        6 => Event::Leave { reader: 1 },
+        _ => Event::Trim { floor: 0 },
+    }
+}
+
+/// The event.
+pub fn event_of(alloc: Global, short: Move) -> Result<Event, AllocError> {
+    Ok(match short {
+        Move::Begin(id) => Event::Begin { id },
+        Move::Read(page) => Event::Read { id: 0, page },
+        Move::Open => Event::OpenJournal { id: 0 },
+        Move::Journal(page) => Event::Journal { id: 0, page },
+        Move::Write(page, filling) => Event::WriteBytes {
+            id: 0,
+            page,
+            bytes: page_of(alloc, filling)?,
+        },
+        Move::Commit => Event::CommitCut { id: 0 },
+        Move::Undo => Event::UndoBytes { id: 0 },
+        Move::Roll => Event::RollCut { id: 0 },
+        Move::Stop => Event::Stop {
+            next: None,
+            bytes: 0,
+        },
+        Move::StopIn(next, bytes) => Event::Stop {
+            next: Some(Boxed::new(alloc, next_of(alloc, next)?)?),
+            bytes,
+        },
+        Move::Recover => Event::RecoverOp,
+        Move::Never(which) => never(which),
+    })
+}

@@ -1,0 +1,25 @@
+use Rattle.std.proofs.Common.{◌≡◌, ◌∙◌, ap, sym, refl, Some, [], ◌∷◌}
+use Rattle.spe_model.specs.Trace.{Operation, after, made_by}
+use Rattle.spe_core.specs.Changed.{undone, undo_of_live, page_write}
+use Rattle.spe_core.specs.Enabled.{is_serving}
+use Rattle.spe_core.specs.Lives.{updated_in}
+use Rattle.spe_core.specs.Parts.{state_of}
+use Rattle.spe_core.specs.State.{live_of}
+use Rattle.spe_core.proofs.StepLemmas.{made_is, undo_some}
+use Rattle.spe_core.proofs.work.undo_bytes.Goals as goal
+
+pub returns-in_default-clause-ok : goal.returns-in_default-clause-ok
+returns-in_default-clause-ok c =
+    let s = state_of c.args.parts.now in
+    absurd (undo_some (is_serving s) (live_of s c.args.id) c.requires.enabled (sym c.in_default.ensures))
+
+pub returns-clause-ok : goal.returns-clause-ok
+returns-clause-ok c =
+    let s = state_of c.args.parts.now in
+    let page = c.in-Some.page in
+    let bytes = c.in-Some.bytes.now in
+    let write = page_write s page bytes in
+    let first : undo_of_live (live_of s c.args.id) ≡ Some (page, bytes) = sym c.in-Some.ensures in
+    let files : c.write.new.self ≡ after s.content (write ∷ []) = c.in_ok-write-2.ensures.ok ∙ ap (λ (op : Operation). made_by op s.content) c.in_ok-write.ensures in
+    let live : c.undo.new.self ≡ updated_in c.args.id (undone (Some (page, bytes))) s.live = c.undo.ensures bytes in
+    record { state = rw first (rw (files, live, c.in_ok-made.ensures) refl ∙ sym (made_is s c.args.id (undone (Some (page, bytes))) (write ∷ []))); pages = refl }

@@ -1,0 +1,75 @@
+//! Numbers that pages name.
+
+ghost use Rattle.std.specs.Prelude.{◌≡◌, ◌≤◌, length, slice_index, take};
+ghost use Rattle.spe_model.specs.declared.file.FileNo.TheVariants.{Database};
+ghost use Rattle.spe_model.specs.Big.{u32_at};
+ghost use Rattle.spe_model.specs.Content.{bytes_of};
+ghost use Rattle.spe_model.specs.Recovery.{file_page_size};
+ghost use Rattle.spe_core.specs.Enabled.{wanted_count};
+ghost use Rattle.spe_core.specs.Laid.{named_count};
+
+use crate::files::Files;
+use crate::live::Live;
+use byteorder::{BigEndian, ByteOrder};
+use spe_model::FileNo;
+
+// Where the size in pages stands on page 1.
+const PAGES_AT: usize = 28;
+
+/// The size of a page, as the file's page 1 names it.
+#[tactic(auto, unfolding(spe_model::specs::Header::page_size_at, spe_model::specs::Big::u16_at))]
+pub fn page_size(files: &Files) -> u32
+    requires { 100 ≤ length (bytes_of files.now Database) }
+    ensures { result ≡ file_page_size files.now }
+{
+    let (front, _) = files.bytes(FileNo::Database).split_at(100);
+    match BigEndian::read_u16(&front[16..]) {
+        1 => 65536,
+        size => u32::from(size),
+    }
+}
+
+fn byte_at(bytes: &[u8], at: usize) -> u8
+    ensures { result ≡ slice_index bytes.now at }
+{
+    bytes.get(at).copied().unwrap_or(0)
+}
+
+/// The number at a place near the front, where a byte that is missing counts as 0.
+#[tactic(auto, unfolding(spe_model::specs::Big::u32_at))]
+pub fn u32_of(bytes: &[u8], at: usize) -> u32
+    requires { at ≤ 100 }
+    ensures { result ≡ u32_at bytes.now at }
+{
+    u32::from_be_bytes([
+        byte_at(bytes, at),
+        byte_at(bytes, at + 1),
+        byte_at(bytes, at + 2),
+        byte_at(bytes, at + 3),
+    ])
+}
+
+/// The size in pages on the page 1 that a transaction wrote, 0 where it wrote none.
+pub fn wanted_count(t: &Live) -> u32
+    ensures { result ≡ wanted_count t.now }
+{
+    match t.written(1) {
+        Some(page) => u32_of(page, PAGES_AT),
+        None => 0,
+    }
+}
+
+/// The first 100 bytes of a page, as far as it has them.
+pub fn front_of(page: &[u8]) -> &[u8]
+    ensures { result.now ≡ take 100 page.now }
+{
+    let (front, _) = page.split_at(page.len().min(100));
+    front
+}
+
+/// The size in pages on a page 1.
+pub fn named_count(page: &[u8]) -> u32
+    ensures { result ≡ named_count page.now }
+{
+    u32_of(front_of(page), PAGES_AT)
+}

@@ -1,0 +1,122 @@
+//! What ends a transaction.
+
+ghost use Rattle.std.specs.Prelude.{◌≡◌, ◌+◌, ◌≤◌, ◌<◌, ◌++◌, ◌∷◌, [], length, vec_capacity, IfOk, OnOk, OnErr};
+ghost use Rattle.spe_model.specs.Trace.{after};
+ghost use Rattle.spe_core.specs.declared.event.Event.TheOpen.{Event-F};
+ghost use Rattle.spe_core.specs.Becomes.{Becomes, count_after, cuts_in, journalled_count};
+ghost use Rattle.spe_core.specs.Changed.{changed_at, cuts_of, images_of};
+ghost use Rattle.spe_core.specs.Parts.{IsReady, state_of};
+
+use crate::bytes::named_count;
+use crate::commit::{Committed, Image};
+use crate::files::Files;
+use crate::parts::Parts;
+use crate::sheets::Sheets;
+use spe_model::FileNo;
+use std::alloc::AllocError;
+
+// The number of operations made, with the cut of a journal that has bytes.
+fn made_with_cut(parts: &Parts, id: u8) -> Result<u64, AllocError>
+    ensures { IfOk result (λ made. made ≡ parts.now.made + length (cuts_of (state_of parts.now) id)) }
+{
+    if parts.files.has_bytes(id) {
+        parts.next_made()
+    } else {
+        Ok(parts.made)
+    }
+}
+
+// Cuts a journal that has bytes to none.
+fn cut_journal(files: &mut Files, id: u8)
+    ensures { files.new ≡ after files.old (cuts_in files.old id) }
+{
+    if files.has_bytes(id) {
+        files.cut(FileNo::Journal(id), 0);
+    }
+}
+
+// The number of recovered pages after a transaction commits.
+fn count_after(parts: &Parts, id: u8) -> u32
+    requires { IsReady parts.now }
+    ensures { result ≡ count_after (state_of parts.now) id }
+{
+    match parts.live.get(id) {
+        Some(t) => match t.written(1) {
+            Some(page) => named_count(page),
+            None => parts.pages,
+        },
+        None => parts.pages,
+    }
+}
+
+// How many pages a transaction journalled.
+fn journalled_count(parts: &Parts, id: u8) -> usize
+    ensures { result ≡ journalled_count (state_of parts.now) id }
+{
+    match parts.live.get(id) {
+        Some(t) => t.journalled_len(),
+        None => 0,
+    }
+}
+
+// Adds a commit for which there is room.
+fn push_commit(commits: &mut Vec<Committed>, committed: Committed)
+    requires { length commits.old.items < vec_capacity commits.old }
+    ensures { commits.new.items ≡ commits.old.items ++ committed ∷ [] }
+{
+    let _pushed = commits.push(committed);
+}
+
+// Adds an image for which there is room.
+fn push_image(images: &mut Vec<Image>, image: Image)
+    requires { length images.old.items < vec_capacity images.old }
+    ensures items { images.new.items ≡ images.old.items ++ image ∷ [] }
+    ensures room { vec_capacity images.old ≤ vec_capacity images.new }
+{
+    let _pushed = images.push(image);
+}
+
+// Moves the pages before a commit behind the images, for which there is room.
+fn push_images(images: &mut Vec<Image>, stamp: u64, mut journalled: Sheets)
+    requires { length images.old.items + length journalled ≤ vec_capacity images.old }
+    ensures { images.new.items ≡ images.old.items ++ images_of stamp journalled }
+{
+    while let Some((page, bytes)) = journalled.pop_first() {
+        push_image(images, Image { page, stamp, bytes });
+    }
+}
+
+/// A transaction commits.
+pub fn commit_cut(parts: &mut Parts, id: u8) -> Result<(), AllocError>
+    requires { IsReady parts.old }
+    ensures ok { OnOk result (state_of parts.new ≡ changed_at (state_of parts.old) (Event-F.CommitCut id)) }
+    ensures count { OnOk result (parts.new.pages ≡ count_after (state_of parts.old) id) }
+    ensures err { OnErr result (Becomes parts.old parts.new (state_of parts.old)) }
+{
+    let made = made_with_cut(parts, id)?;
+    let pages = count_after(parts, id);
+    let count = journalled_count(parts, id);
+    parts.commits.reserve(1)?;
+    parts.images.reserve(count)?;
+    let stamp = parts.commits.len() as u64 + 1;
+    if let Some((committed, journalled)) = parts.live.end(parts.alloc, id) {
+        push_commit(&mut parts.commits, committed);
+        push_images(&mut parts.images, stamp, journalled);
+    }
+    cut_journal(&mut parts.files, id);
+    parts.made = made;
+    parts.pages = pages;
+    Ok(())
+}
+
+/// A transaction ends with nothing written.
+pub fn roll_cut(parts: &mut Parts, id: u8) -> Result<(), AllocError>
+    ensures ok { OnOk result (Becomes parts.old parts.new (changed_at (state_of parts.old) (Event-F.RollCut id))) }
+    ensures err { OnErr result (Becomes parts.old parts.new (state_of parts.old)) }
+{
+    let made = made_with_cut(parts, id)?;
+    let _lists = parts.live.end(parts.alloc, id);
+    cut_journal(&mut parts.files, id);
+    parts.made = made;
+    Ok(())
+}

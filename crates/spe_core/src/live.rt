@@ -1,0 +1,167 @@
+//! A live transaction.
+
+use crate::commit::Committed;
+use crate::sheets::Sheets;
+use spe_model::Bytes;
+use std::alloc::{AllocError, Global};
+use std::marker::Model;
+use std::mem;
+
+/// How far a transaction is.
+#[derive(Clone, Copy, Debug)]
+pub enum Phase {
+    /// It reads and writes.
+    Working,
+    /// It gives pages their old bytes back.
+    Undoing,
+    /// It committed or rolled back.
+    Ended,
+}
+
+/// A live transaction: the pages that it read as it found them, those that it journalled with their
+/// bytes before, and those that it wrote.
+#[derive(Drop)]
+pub struct Live {
+    seen: Sheets,
+    journalled: Sheets,
+    written: Sheets,
+    phase: Phase,
+}
+
+impl Model for Live {
+    ghost use Rattle.spe_core.specs.State.{Live as State};
+    ghost use Rattle.spe_core.specs.Phases.{phase_of};
+
+    ghost Value = { State };
+
+    ghost view = { λ t. record { seen = t.seen; journalled = t.journalled; written = t.written; phase = phase_of t.phase } };
+}
+
+impl Live {
+    ghost use Rattle.std.specs.Prelude.{◌≡◌, ◌||◌, OnOk, OnErr, length};
+    ghost use Rattle.std.specs.Option.{option_copied, option_map};
+    ghost use Rattle.spe_core.specs.Sheets.{sheet_at, has_sheet, with_sheet, without_sheet};
+    ghost use Rattle.spe_core.specs.State.{is_working, is_ended, Undoing};
+    ghost use Rattle.spe_core.specs.Enabled.{has_changed};
+    ghost use Rattle.spe_core.specs.Changed.{fresh, undo_of, ended};
+
+    /// A transaction that has done nothing yet.
+    pub fn new(alloc: Global) -> Live
+        ensures { result ≡ fresh }
+    {
+        Live {
+            seen: Sheets::new(alloc),
+            journalled: Sheets::new(alloc),
+            written: Sheets::new(alloc),
+            phase: Phase::Working,
+        }
+    }
+
+    /// Whether it reads and writes.
+    pub fn is_working(&self) -> bool
+        ensures { result ≡ is_working self.now }
+    {
+        matches!(self.phase, Phase::Working)
+    }
+
+    /// Whether it committed or rolled back.
+    pub fn is_ended(&self) -> bool
+        ensures { result ≡ is_ended self.now }
+    {
+        matches!(self.phase, Phase::Ended)
+    }
+
+    /// Whether it wrote a page, or read it as it found it.
+    pub fn has_read(&self, page: u32) -> bool
+        ensures { result ≡ (has_sheet page self.now.written || has_sheet page self.now.seen) }
+    {
+        self.written.has(page) || self.seen.has(page)
+    }
+
+    /// Whether it journalled a page.
+    pub fn has_journalled(&self, page: u32) -> bool
+        ensures { result ≡ has_sheet page self.now.journalled }
+    {
+        self.journalled.has(page)
+    }
+
+    /// Whether it wrote a page.
+    pub fn has_written(&self, page: u32) -> bool
+        ensures { result ≡ has_sheet page self.now.written }
+    {
+        self.written.has(page)
+    }
+
+    /// The bytes that it wrote to a page.
+    pub fn written(&self, page: u32) -> Option<&[u8]>
+        ensures { option_copied result ≡ sheet_at page self.now.written }
+    {
+        self.written.get(page)
+    }
+
+    /// How many pages it journalled.
+    pub fn journalled_len(&self) -> usize
+        ensures { result ≡ length self.now.journalled }
+    {
+        self.journalled.len()
+    }
+
+    /// The least page that it journalled and wrote, with its bytes before.
+    pub fn first_changed(&self) -> Option<(u32, &[u8])>
+        ensures { option_map (λ p. (p.0, p.1.now)) result ≡ undo_of self.now }
+    {
+        self.journalled.first_among(&self.written)
+    }
+
+    /// Whether a page that it journalled is written.
+    pub fn has_changed(&self) -> bool
+        ensures { result ≡ has_changed self.now }
+    {
+        self.first_changed().is_some()
+    }
+
+    /// Lists a page as read.
+    pub fn note_seen(&mut self, page: u32, bytes: Bytes) -> Result<(), AllocError>
+        ensures ok { OnOk result (self.new ≡ record self.old { seen = with_sheet page bytes self.old.seen }) }
+        ensures err { OnErr result (self.new ≡ self.old) }
+    {
+        self.seen.put(page, bytes)
+    }
+
+    /// Lists a page as journalled.
+    pub fn note_journalled(&mut self, page: u32, bytes: Bytes) -> Result<(), AllocError>
+        ensures ok { OnOk result (self.new ≡ record self.old { journalled = with_sheet page bytes self.old.journalled }) }
+        ensures err { OnErr result (self.new ≡ self.old) }
+    {
+        self.journalled.put(page, bytes)
+    }
+
+    /// Lists a page as written.
+    pub fn note_written(&mut self, page: u32, bytes: Bytes) -> Result<(), AllocError>
+        ensures ok { OnOk result (self.new ≡ record self.old { written = with_sheet page bytes self.old.written }) }
+        ensures err { OnErr result (self.new ≡ self.old) }
+    {
+        self.written.put(page, bytes)
+    }
+
+    /// A written page has its old bytes again.
+    pub fn undo(&mut self, page: u32)
+        ensures { self.new ≡ record self.old { written = without_sheet page self.old.written; phase = Undoing } }
+    {
+        self.written.remove(page);
+        self.phase = Phase::Undoing;
+    }
+
+    /// Ends, with the lists of what was read and written, and of what was journalled.
+    pub fn end(&mut self, alloc: Global) -> (Committed, Sheets)
+        ensures ended { self.new ≡ ended self.old }
+        ensures committed { result.0 ≡ record { seen = self.old.seen; written = self.old.written } }
+        ensures journalled { result.1 ≡ self.old.journalled }
+    {
+        let seen = mem::replace(&mut self.seen, Sheets::new(alloc));
+        let written = mem::replace(&mut self.written, Sheets::new(alloc));
+        let journalled = mem::replace(&mut self.journalled, Sheets::new(alloc));
+        self.phase = Phase::Ended;
+        (Committed { seen, written }, journalled)
+    }
+}

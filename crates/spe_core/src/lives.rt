@@ -1,0 +1,146 @@
+//! The live transactions, by their numbers.
+
+use crate::commit::Committed;
+use crate::live::Live;
+use crate::sheets::Sheets;
+use spe_model::Bytes;
+use std::alloc::{AllocError, Global};
+use std::collections::BTreeMap;
+use std::marker::Model;
+
+/// The transactions that are live, by their numbers.
+#[derive(Drop)]
+pub struct Lives {
+    map: BTreeMap<u8, Live>,
+}
+
+impl Model for Lives {
+    ghost use Rattle.std.specs.Prelude.{ℕ, List};
+    ghost use Rattle.std.specs.Ordering.{nat_cmp};
+    ghost use Rattle.std.specs.BTreeMap.{IsOrdered};
+    ghost use Rattle.spe_core.specs.State.{Live as State};
+
+    ghost Value = { List (ℕ × State) };
+
+    ghost view = { λ l. l.map.entries };
+
+    ghost invariant = { λ l. IsOrdered nat_cmp l.map };
+}
+
+impl Lives {
+    ghost use Rattle.std.specs.Prelude.{◌≡◌, [], false, IsTrue, OnOk, OnErr, List, Some, ℕ};
+    ghost use Rattle.std.specs.List.{list_all};
+    ghost use Rattle.std.specs.Option.{option_copied};
+    ghost use Rattle.spe_core.specs.State.{Live as State, live_in, is_ended};
+    ghost use Rattle.spe_core.specs.Changed.{with_written, undone, ended};
+    ghost use Rattle.spe_core.specs.Lives.{updated_in, with_live_in, with_seen, with_saved, with_noted, Leaves};
+
+    /// No transactions.
+    pub fn new(alloc: Global) -> Lives
+        ensures { result ≡ [] }
+    {
+        Lives {
+            map: BTreeMap::new(alloc),
+        }
+    }
+
+    /// The transaction of this number, where it is live.
+    pub fn get(&self, id: u8) -> Option<&Live>
+        ensures { option_copied result ≡ live_in id self.now }
+    {
+        self.map.get(&id)
+    }
+
+    /// Whether each has ended.
+    pub fn have_all_ended(&self) -> bool
+        ensures { result ≡ list_all (λ (t : ℕ × State). is_ended t.1) self.now }
+    {
+        for (_, t) in &self.map {
+            if !t.is_ended() {
+                return false;
+            }
+        }
+        true
+    }
+
+    /// Makes this the transaction of a number.
+    pub fn put(&mut self, id: u8, t: Live) -> Result<(), AllocError>
+        ensures ok { OnOk result (self.new ≡ with_live_in id t self.old) }
+        ensures err { OnErr result (self.new ≡ self.old) }
+    {
+        let _old = self.map.insert(id, t)?;
+        Ok(())
+    }
+
+    /// Takes all out.
+    pub fn clear(&mut self)
+        ensures { self.new ≡ [] }
+    {
+        self.map.clear();
+    }
+
+    /// Whether the transaction of a number is not live, or read or wrote a page already.
+    pub fn has_read(&self, id: u8, page: u32) -> bool
+        ensures stays { IsTrue result → (bytes : List ℕ) → updated_in id (with_noted page bytes) self.now ≡ self.now }
+        ensures notes { result ≡ false → (bytes : List ℕ) → updated_in id (with_noted page bytes) self.now ≡ updated_in id (with_seen page bytes) self.now }
+    {
+        match self.map.get(&id) {
+            Some(t) => t.has_read(page),
+            None => true,
+        }
+    }
+
+    /// Lists a page as read by the transaction of a number.
+    pub fn note_seen(&mut self, id: u8, page: u32, bytes: Bytes) -> Result<(), AllocError>
+        ensures ok { OnOk result (self.new ≡ updated_in id (with_seen page bytes) self.old) }
+        ensures err { OnErr result (self.new ≡ self.old) }
+    {
+        let Some(t) = self.map.get_mut(&id) else {
+            return Ok(());
+        };
+        t.note_seen(page, bytes)
+    }
+
+    /// Lists a page as journalled by it.
+    pub fn note_journalled(&mut self, id: u8, page: u32, bytes: Bytes) -> Result<(), AllocError>
+        ensures ok { OnOk result (self.new ≡ updated_in id (with_saved page bytes) self.old) }
+        ensures err { OnErr result (self.new ≡ self.old) }
+    {
+        let Some(t) = self.map.get_mut(&id) else {
+            return Ok(());
+        };
+        t.note_journalled(page, bytes)
+    }
+
+    /// Lists a page as written by it.
+    pub fn note_written(&mut self, id: u8, page: u32, bytes: Bytes) -> Result<(), AllocError>
+        ensures ok { OnOk result (self.new ≡ updated_in id (with_written page bytes) self.old) }
+        ensures err { OnErr result (self.new ≡ self.old) }
+    {
+        let Some(t) = self.map.get_mut(&id) else {
+            return Ok(());
+        };
+        t.note_written(page, bytes)
+    }
+
+    /// The least page that it journalled and wrote has its old bytes again.
+    pub fn undo(&mut self, id: u8, page: u32)
+        ensures { (bytes : List ℕ) → self.new ≡ updated_in id (undone (Some (page, bytes))) self.old }
+    {
+        let Some(t) = self.map.get_mut(&id) else {
+            return;
+        };
+        t.undo(page);
+    }
+
+    /// Ends it, with the lists of what it read and wrote, and of what it journalled.
+    pub fn end(&mut self, alloc: Global, id: u8) -> Option<(Committed, Sheets)>
+        ensures ended { self.new ≡ updated_in id ended self.old }
+        ensures left { Leaves (live_in id self.old) result }
+    {
+        let Some(t) = self.map.get_mut(&id) else {
+            return None;
+        };
+        Some(t.end(alloc))
+    }
+}

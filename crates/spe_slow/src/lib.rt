@@ -1,0 +1,22 @@
+//! What statements mean, done plainly: the tests for the refusals that need no rows, the length of a
+//! record, and the rows that a statement shows and writes, each as the definitions in `spe_model` say.
+#![tactic(auto)]
+
+mod assigned;
+mod conditions;
+mod length;
+mod naming;
+mod refused;
+mod rows;
+mod stored;
+
+pub use assigned::{by_column, given_rowid, given_to};
+pub use conditions::is_chosen;
+pub use length::encoded_length;
+pub use naming::meant_by;
+pub use refused::{
+    has_column_condition, has_misfit, has_null, has_unknown_name, is_miscounted, rowless_refusal,
+    sets_rowid,
+};
+pub use rows::{changed_values, is_too_long, new_values, selected};
+pub use stored::{changed_rows, chosen_count, is_any_too_long, remove_chosen, write_rows};

@@ -1,0 +1,10 @@
+pub mod CommandLemmas
+pub mod FindLemmas
+pub mod GrammarLemmas
+pub mod LineLemmas
+pub mod LookLemmas
+pub mod ReaderLemmas
+pub mod RowsLemmas
+pub mod StatesLemmas
+pub mod SyntaxLemmas
+pub mod WalkLemmas

@@ -1,0 +1,4 @@
+pub mod Found
+pub mod Grammar
+pub mod Line
+pub mod Syntax
