@@ -6,27 +6,37 @@ use super::events::Filling::{OtherFront, Pages, Row, Short, Uncounted};
 use super::events::Move::{
     Begin, Commit, Journal, Never, Open, Read, Recover, Roll, Stop, StopIn, Undo, Write,
 };
-use super::events::{Move, Next, event_of};
-use super::files::two;
+use super::events::{Move, Next, event_of, page_of};
+use super::files::{PAGE, two};
 use spe_core::{Answer, Core, is_opening, step};
-use spe_model::Bytes;
+use spe_model::{Bytes, FileNo};
 use std::alloc::{AllocError, Global};
 use std::process::Abort;
 use std::test::Fail;
 
-// Events, and for each whether it is made (`m`) or refused (`r`).
-static RUNS: [(&[Move], &str); 33] = [
+// Events, for each whether it is made (`m`) or refused (`r`), how many commits there are then, and
+// whether page 2 of the file has the row.
+static RUNS: [(&[Move], &str, usize, bool); 32] = [
     // a row is committed
     (
         &[Begin(0), Read(2), Open, Journal(2), Write(2, Row), Commit],
         "mmmmmm",
+        1,
+        true,
     ),
     // stopped within the head, with nothing of it written, within the record, and with all of that
     (
         &[Begin(0), StopIn(Next::Open, 300), Recover, Recover, Recover],
         "mmmmr",
+        0,
+        false,
     ),
-    (&[Begin(0), StopIn(Next::Open, 0), Recover, Recover], "mmmr"),
+    (
+        &[Begin(0), StopIn(Next::Open, 0), Recover, Recover],
+        "mmmr",
+        0,
+        false,
+    ),
     (
         &[
             Begin(0),
@@ -37,6 +47,8 @@ static RUNS: [(&[Move], &str); 33] = [
             Recover,
         ],
         "mmmmmr",
+        0,
+        false,
     ),
     (
         &[
@@ -49,6 +61,8 @@ static RUNS: [(&[Move], &str); 33] = [
             Recover,
         ],
         "mmmmmmr",
+        0,
+        false,
     ),
     // within the page, before the cut, and after it
     (
@@ -63,6 +77,8 @@ static RUNS: [(&[Move], &str); 33] = [
             Recover,
         ],
         "mmmmmmmr",
+        0,
+        false,
     ),
     (
         &[
@@ -77,6 +93,8 @@ static RUNS: [(&[Move], &str); 33] = [
             Recover,
         ],
         "mmmmmmmmr",
+        0,
+        false,
     ),
     (
         &[
@@ -90,6 +108,8 @@ static RUNS: [(&[Move], &str); 33] = [
             Recover,
         ],
         "mmmmmmmr",
+        1,
+        true,
     ),
     // within recovery, whose next operation is a write, and a cut
     (
@@ -106,15 +126,21 @@ static RUNS: [(&[Move], &str); 33] = [
             Recover,
         ],
         "mmmmmmmmmr",
+        0,
+        false,
     ),
     (
         &[Begin(0), StopIn(Next::Open, 300), StopIn(Next::Recover, 1)],
         "mmr",
+        0,
+        false,
     ),
     // served again
     (
         &[Begin(0), StopIn(Next::Open, 0), Recover, Begin(1)],
         "mmmm",
+        0,
+        false,
     ),
     // undone
     (
@@ -126,25 +152,58 @@ static RUNS: [(&[Move], &str); 33] = [
             Undo,
             Undo,
             Read(3),
+            Open,
+            Journal(3),
+            Write(2, Row),
+            Commit,
             Roll,
             Commit,
         ],
-        "mmmmmrrmr",
+        "mmmmmrrrrrrmr",
+        0,
+        false,
     ),
-    (&[Begin(0), Open, Journal(2), Write(2, Row), Roll], "mmmmr"),
+    (
+        &[Begin(0), Open, Journal(2), Write(2, Row), Roll],
+        "mmmmr",
+        0,
+        true,
+    ),
     // begun by an id past the last, twice, beside another, after it, and while recovering
-    (&[Begin(16)], "r"),
-    (&[Begin(0), Begin(0), Begin(1)], "mrr"),
-    (&[Begin(0), Roll, Begin(1)], "mmm"),
-    (&[Stop, Begin(0)], "mr"),
-    // read by nobody, and pages that are none
-    (&[Read(2)], "r"),
-    (&[Begin(0), Read(0), Read(7), Read(6)], "mrrm"),
-    // a journal opened by nobody, and twice
-    (&[Open], "r"),
-    (&[Begin(0), Open, Open], "mmr"),
+    (&[Begin(16)], "r", 0, false),
+    (&[Begin(0), Begin(0), Begin(1)], "mrr", 0, false),
+    (&[Begin(0), Roll, Begin(1)], "mmm", 0, false),
+    (&[Stop, Begin(0)], "mr", 0, false),
+    // anything while recovering, and by nobody
+    (
+        &[
+            Begin(0),
+            Stop,
+            Read(2),
+            Open,
+            Journal(2),
+            Write(2, Row),
+            Commit,
+            Undo,
+            Roll,
+            StopIn(Next::Open, 1),
+        ],
+        "mmrrrrrrrr",
+        0,
+        false,
+    ),
+    (
+        &[Read(2), Open, Journal(2), Write(2, Row), Commit, Undo, Roll],
+        "rrrrrrr",
+        0,
+        false,
+    ),
+    // pages that are none
+    (&[Begin(0), Read(0), Read(7), Read(6)], "mrrm", 0, false),
+    // a journal opened twice
+    (&[Begin(0), Open, Open], "mmr", 0, false),
     // records without a head, of pages that are none, and twice
-    (&[Begin(0), Journal(2)], "mr"),
+    (&[Begin(0), Journal(2)], "mr", 0, false),
     (
         &[
             Begin(0),
@@ -155,11 +214,28 @@ static RUNS: [(&[Move], &str); 33] = [
             Journal(2),
         ],
         "mmrrmr",
+        0,
+        false,
     ),
     // pages without a record, of another length, and with another front of page 1
-    (&[Begin(0), Open, Write(2, Row), Write(7, Row)], "mmrr"),
-    (&[Begin(0), Open, Journal(2), Write(2, Short)], "mmmr"),
-    (&[Begin(0), Open, Journal(1), Write(1, OtherFront)], "mmmr"),
+    (
+        &[Begin(0), Open, Write(2, Row), Write(7, Row)],
+        "mmrr",
+        0,
+        false,
+    ),
+    (
+        &[Begin(0), Open, Journal(2), Write(2, Short)],
+        "mmmr",
+        0,
+        false,
+    ),
+    (
+        &[Begin(0), Open, Journal(1), Write(1, OtherFront)],
+        "mmmr",
+        0,
+        false,
+    ),
     // the file grows, once each new page is written
     (
         &[
@@ -173,19 +249,24 @@ static RUNS: [(&[Move], &str); 33] = [
             Commit,
         ],
         "mmmmrrmm",
+        1,
+        false,
     ),
     // a header that a database may not have next: fewer pages, or a number that does not count
     (
         &[Begin(0), Open, Journal(1), Write(1, Pages(5)), Commit],
         "mmmmr",
+        0,
+        false,
     ),
     (
         &[Begin(0), Open, Journal(1), Write(1, Uncounted), Commit],
         "mmmmr",
+        0,
+        false,
     ),
-    // ends of nobody's, and an undo of nothing
-    (&[Commit, Undo, Roll], "rrr"),
-    (&[Begin(0), Undo], "mr"),
+    // an undo of nothing
+    (&[Begin(0), Undo], "mr", 0, false),
     // a stop in what makes no write, and in what is not enabled; recovery of what is served
     (
         &[
@@ -195,6 +276,8 @@ static RUNS: [(&[Move], &str); 33] = [
             Recover,
         ],
         "mrrr",
+        0,
+        false,
     ),
     (
         &[
@@ -209,11 +292,17 @@ static RUNS: [(&[Move], &str); 33] = [
             Never(7),
         ],
         "mrrrrrrrr",
+        0,
+        false,
     ),
 ];
 
-fn expect(rt: &impl Abort, alloc: Global, run: &(&[Move], &str)) -> Result<(), AllocError> {
-    let (moves, answers) = *run;
+fn expect(
+    rt: &impl Abort,
+    alloc: Global,
+    run: &(&[Move], &str, usize, bool),
+) -> Result<(), AllocError> {
+    let (moves, answers, commits, has_row) = *run;
     let file = two(alloc)?;
     if !is_opening(&file) {
         assert!(rt; false);
@@ -229,6 +318,10 @@ fn expect(rt: &impl Abort, alloc: Global, run: &(&[Move], &str)) -> Result<(), A
         })?;
     }
     assert_eq!(rt; made.as_str(), answers);
+    assert_eq!(rt; core.commit_count(), commits, "{answers}");
+    let row = page_of(alloc, Row)?;
+    let page = core.bytes(FileNo::Database).iter().skip(PAGE).take(PAGE);
+    assert_eq!(rt; page.eq(row.as_slice().iter()), has_row, "{answers}");
     Ok(())
 }
 

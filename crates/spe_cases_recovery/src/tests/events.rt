@@ -51,7 +51,8 @@ pub enum Next {
     Begin,
 }
 
-fn page_of(alloc: Global, filling: Filling) -> Result<Bytes, AllocError> {
+/// The bytes of a page filled so.
+pub fn page_of(alloc: Global, filling: Filling) -> Result<Bytes, AllocError> {
     let mut page = two(alloc)?;
     page.truncate(PAGE);
     match filling {
