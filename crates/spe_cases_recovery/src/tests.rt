@@ -1,7 +1,7 @@
-mod core;
 mod events;
 mod faults;
 mod files;
 mod journals;
+mod lists;
 mod run;
 mod stops;

@@ -326,7 +326,7 @@ fn expect(
 }
 
 #[test]
-fn runs(rt: HostRuntime) -> Result<(), Fail> {
+fn made_or_refused(rt: HostRuntime) -> Result<(), Fail> {
     for run in &RUNS {
         expect(&rt, rt.alloc(), run)?;
     }
