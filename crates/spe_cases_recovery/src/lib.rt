@@ -1,4 +1,4 @@
-//! Tests of recovery, over disks in memory.
+//! Tests of recovery, over disks in memory, of those disks, and of the core of one transaction.
 #![tactic(auto)]
 
 #[cfg(test)]

@@ -1,7 +1,11 @@
+mod disks;
 mod events;
 mod faults;
 mod files;
 mod journals;
 mod lists;
 mod run;
+mod scripts;
 mod stops;
+mod wants;
+mod watched;

@@ -1,4 +1,4 @@
-//! Tests of the reading of trees and of chains, over pages in memory that are laid out by hand.
+//! Tests of spaces, chains, trees, schemas and node pages, over pages in memory.
 #![tactic(auto)]
 
 #[cfg(test)]

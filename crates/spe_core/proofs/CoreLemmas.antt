@@ -1,6 +1,8 @@
 -- What a sound state says of its files, and of the number of their pages.
 use Rattle.std.proofs.Common.{◌≡◌, ℕ, List, [], ◌∷◌, ◌++◌, length, refl, sym, ap, subst, ◌∙◌, true, Option, Some, None, unwrap_or}
 use Rattle.std.specs.Option.{option_map_or}
+use Rattle.spe_model.specs.Recovery.{file_page}
+use Rattle.spe_model.specs.Paging.{lay}
 use Rattle.spe_crash.proofs.FrontLemmas.{readable}
 use Rattle.spe_crash.proofs.PagesLemmas.{opened as parts_of}
 use Rattle.spe_core.specs.declared.event.Event.{Event, out-Event}
@@ -10,11 +12,11 @@ use Rattle.spe_core.specs.Becomes.{Becomes, count_by}
 use Rattle.spe_core.specs.Changed.{changed, changed_at, committed, cuts_of, ended, undone, undo_of_live, update_live, with_commit, with_journalled, with_made, with_read, with_written}
 use Rattle.spe_core.specs.Changing.{AreOf, IsHeld, count_next, count_next_at}
 use Rattle.spe_core.specs.Enabled.{count_of, enabled}
-use Rattle.spe_core.specs.Laid.{laid, named_count, over, pages_of}
+use Rattle.spe_core.specs.Laid.{laid, named_count, pages_of}
 use Rattle.spe_core.specs.Opened.{Opened}
 use Rattle.spe_core.specs.Parts.{IsPaged, IsReady, state_of}
 use Rattle.spe_core.specs.Serial.{IsSerial, after_events, next}
-use Rattle.spe_core.specs.Sheets.{sheet_at}
+use Rattle.spe_core.specs.Sheets.{sheet_at, pages_at}
 use Rattle.spe_core.specs.Sound.{IsSound, now_laid}
 use Rattle.spe_core.specs.State.{Committed, Live, State, live_of}
 use Rattle.spe_core.proofs.Sound.{sound_after, sound_next, sound_serial}
@@ -47,7 +49,7 @@ count_more : (s other : State) (t : Live) → IsSound s → IsSound other → ot
 count_more s other t sound later opening commits =
     let paging = paging_of s.opening s.commits in
     let before : count_of s ≡ named_count (paging 1) = count_is s sound ∙ (counted_of paging (now_laid s) (laid_all s)).count in
-    let next = over paging t.written in
+    let next = lay (pages_at t.written) paging in
     let after : count_of other ≡ named_count (next 1) =
     count_is other later ∙ (counted_of next (now_laid other) (laid_next s other (record { seen = t.seen; written = t.written }) opening commits)).count in
     ap (λ (n : ℕ). option_map_or named_count (sheet_at 1 t.written) n) before ∙ named_over (paging 1) (sheet_at 1 t.written) ∙ sym after
@@ -60,8 +62,8 @@ commits_stay : (s : State) (id : ℕ) (f : Live → Live) → (update_live s id 
 commits_stay s id f = ap (λ (x : State). x.commits) (update_is s id f)
 
 -- the number of pages after an event
-count_at_commit : (s : State) (id : ℕ) (o : Option Live) → IsSound s → live_of s id ≡ o → IsSound (with_made (update_live (committed s o) id ended) (cuts_of s id))
-    → option_map_or (count_by (count_of s)) o (count_of s) ≡ count_of (with_made (update_live (committed s o) id ended) (cuts_of s id))
+count_at_commit : (s : State) (id : ℕ) (o : Option Live) → IsSound s → live_of s id ≡ o → IsSound (with_made (update_live (committed s o) id ended) (cuts_of s.content id))
+    → option_map_or (count_by (count_of s)) o (count_of s) ≡ count_of (with_made (update_live (committed s o) id ended) (cuts_of s.content id))
 count_at_commit s id None sound at later = count_same s _ sound later (opening_stays s id ended) (commits_stay s id ended)
 count_at_commit s id (Some t) sound at later =
     count_more s _ t sound later (opening_stays (with_commit s t) id ended) (commits_stay (with_commit s t) id ended)
@@ -69,10 +71,10 @@ count_at_commit s id (Some t) sound at later =
 count_at : (s : State) (o : Opened) → IsSound s → IsSound (changed_at s o) → count_next_at s o ≡ count_of (changed_at s o)
 count_at s (Event-F.Begin id) sound later = count_same s _ sound later refl refl
 count_at s (Event-F.Read id page) sound later =
-    let f = with_read s.content page in count_same s _ sound later (opening_stays s id f) (commits_stay s id f)
+    let f = with_read page (file_page s.content page) in count_same s _ sound later (opening_stays s id f) (commits_stay s id f)
 count_at s (Event-F.OpenJournal id) sound later = count_same s _ sound later refl refl
 count_at s (Event-F.Journal id page) sound later =
-    let f = with_journalled s.content page in count_same s _ sound later (opening_stays s id f) (commits_stay s id f)
+    let f = with_journalled page (file_page s.content page) in count_same s _ sound later (opening_stays s id f) (commits_stay s id f)
 count_at s (Event-F.WriteBytes id page bytes) sound later =
     let f = with_written page bytes in count_same s _ sound later (opening_stays s id f) (commits_stay s id f)
 count_at s (Event-F.CommitCut id) sound later = count_at_commit s id (live_of s id) sound refl later

@@ -1,3 +1,4 @@
+pub mod Walks
 pub mod SoundSheets
 pub mod SoundPages
 pub mod SoundFiles
@@ -22,6 +23,7 @@ pub mod LaidLemmas
 pub mod KeptLemmas
 pub mod FilesLemmas
 pub mod SheetsLemmas
+pub mod UndoLemmas
 pub mod LivesLemmas
 pub mod PlanLemmas
 pub mod EnabledLemmas

@@ -1,28 +1,27 @@
 -- A core is sound after any events, and a sound core is serial.
-use Rattle.std.proofs.Common.{◌≡◌, ℕ, zero, suc, ◌+◌, ◌<◌, ◌≤◌, List, [], ◌∷◌, length, refl, ap, ◌∙◌, arith, Bool, true, false, Option, Ok, ⊎_elim}
+use Rattle.std.proofs.Common.{◌≡◌, ℕ, zero, suc, ◌+◌, ◌<◌, ◌≤◌, List, [], ◌∷◌, length, refl, arith, Bool, true, false, ⊎_elim}
 use Rattle.std.specs.Prelude.{◌&&◌, nat_lt, filter}
 use Rattle.std.proofs.lemmas.Bool.{and_parts, cases_Bool, false_from_ne_true, ltb-true}
 use Rattle.spe_model.specs.Content.{Content}
 use Rattle.spe_model.specs.Covered.{Recovers}
 use Rattle.spe_model.specs.Journal.{numbers_from}
-use Rattle.spe_model.specs.Recovery.{holders, hot_of, recovered}
+use Rattle.spe_model.specs.Recovery.{holders, hot_of}
 use Rattle.spe_crash.proofs.HotLemmas.{apart_from, holds}
 use Rattle.spe_crash.proofs.PagesLemmas.{opened as parts_of}
 use Rattle.spe_core.specs.declared.event.Event.{Event, out-Event}
 use Rattle.spe_core.specs.declared.event.Event.TheOpen.{Event-F}
 use Rattle.spe_core.specs.Opened.{Opened}
-use Rattle.spe_core.specs.Changed.{changed, changed_at}
+use Rattle.spe_core.specs.Changed.{changed_at}
 use Rattle.spe_core.specs.Enabled.{enabled, enabled_at, have_all_ended, is_serving}
-use Rattle.spe_core.specs.Laid.{laid}
 use Rattle.spe_core.specs.Opening.{IsOpening, opened}
 use Rattle.spe_core.specs.Serial.{IsSerial, after_events, next}
 use Rattle.spe_core.specs.Sound.{IsSound, now_laid}
 use Rattle.spe_core.specs.State.{State}
 use Rattle.spe_core.proofs.SoundBytes.{sound_undo_bytes, sound_write_bytes}
 use Rattle.spe_core.proofs.SoundEnds.{sound_commit_cut, sound_roll_cut}
-use Rattle.spe_core.proofs.SoundEvents.{sound_begin, sound_journal, sound_open_journal, sound_read}
-use Rattle.spe_core.proofs.SoundLaid.{laid_same}
+use Rattle.spe_core.proofs.SoundEvents.{at_rest, sound_begin, sound_journal, sound_open_journal, sound_read}
 use Rattle.spe_core.proofs.SoundOpened.{opened_sound}
+use Rattle.spe_core.proofs.SoundState.{IsAtWork, unended}
 use Rattle.spe_core.proofs.SoundStops.{sound_recover_op, sound_stop}
 
 pub sound_opened : (bytes : List ℕ) (slots : ℕ) → IsOpening bytes → IsSound (opened bytes slots)
@@ -81,24 +80,8 @@ sound_serial s sound = record {
   reads = sound.reads;
   recovered = sound.recovers;
   apart = held_once s.content (now_laid s) sound.recovers;
+  working = λ id t its going.
+      let work : IsAtWork s id t = unended s id t sound its going in
+      record { reads = work.files.seen; written = λ p bytes found. (work.files.written p bytes found).0; others = work.files.kept };
+  resting = λ serving all. (at_rest s sound serving all).whole;
 }
-
--- a stop commits nothing, and the pages after the commits are recovered, wherever it tears a write
-stop_commits : (s : State) (o : Opened) (e : Option Event) (n : ℕ) → o ≡ Event-F.Stop e n → (changed_at s o).commits ≡ s.commits
-stop_commits s o e n is = ap (λ (x : Opened). (changed_at s x).commits) is
-
-stop_opening : (s : State) (o : Opened) (e : Option Event) (n : ℕ) → o ≡ Event-F.Stop e n → (changed_at s o).opening ≡ s.opening
-stop_opening s o e n is = ap (λ (x : Opened). (changed_at s x).opening) is
-
-pub stop_recovers : (s : State) (e : Event) (torn : Option Event) (n : ℕ) → out-Event e ≡ Event-F.Stop torn n → IsSound s → recovered (next s e).content ≡ Ok (laid s (length s.commits))
-stop_recovers s e torn n is sound = ⊎_elim
-    (λ (may : enabled s e ≡ true).
-    let same : next s e ≡ changed s e = rw may refl in
-    let after : recovered (changed s e).content ≡ Ok (now_laid (changed s e)) = (sound_changed s (out-Event e) sound may).recovers in
-    let commits : (changed s e).commits ≡ s.commits = stop_commits s (out-Event e) torn n is in
-    let pages : now_laid (changed s e) ≡ now_laid s = laid_same s (changed s e) (stop_opening s (out-Event e) torn n is) commits (length (changed s e).commits) ∙ ap (λ cs. laid s (length cs)) commits in
-    ap (λ (x : State). recovered x.content) same ∙ after ∙ ap (λ (ps : List (List ℕ)). Ok ps) pages)
-    (λ (may_not : enabled s e ≡ false).
-    let same : next s e ≡ s = rw may_not refl in
-    ap (λ (x : State). recovered x.content) same ∙ sound.recovers)
-    (cases_Bool (enabled s e))

@@ -4,22 +4,23 @@ use Rattle.std.specs.Prelude.{◌&&◌, is_some, nat_le, unwrap_or}
 use Rattle.std.specs.Option.{option_map_or}
 use Rattle.std.proofs.lemmas.Bool.{and_parts, cases_Bool, cases_eq, cases_lt, leb-true, ltb-false}
 use Rattle.std.proofs.lemmas.List.{nil_from_length}
+use Rattle.spe_model.specs.Rollback.{has_length}
 use Rattle.spe_model.specs.declared.header.Header.{Header}
 use Rattle.spe_model.specs.declared.header.HeaderFault.{HeaderFault}
 use Rattle.spe_model.specs.Content.{Content}
 use Rattle.spe_model.specs.Covered.{Recovers}
 use Rattle.spe_model.specs.Header.{fields, header_of, is_size_valid}
-use Rattle.spe_model.specs.Paging.{Paging}
+use Rattle.spe_model.specs.Paging.{Paging, lay}
 use Rattle.spe_model.specs.Recovery.{file_page, file_page_size, journal_of}
 use Rattle.spe_model.specs.Trace.{after}
 use Rattle.spe_crash.proofs.CutLemmas.{cut_empties, cut_leaves}
 use Rattle.spe_crash.proofs.FileLemmas.{journal_leaves}
 use Rattle.spe_crash.proofs.PagesLemmas.{opened, some_pages}
 use Rattle.spe_core.specs.Changed.{cuts_of}
-use Rattle.spe_core.specs.Enabled.{are_written, count_of, has_bytes, is_next_header, may_commit, page_size_of}
-use Rattle.spe_core.specs.Laid.{named_count, ok_or_none, over, page_in, pages_of}
+use Rattle.spe_core.specs.Enabled.{are_written, count_of, is_next_header, may_commit, page_size_of}
+use Rattle.spe_core.specs.Laid.{named_count, ok_or_none, page_in, pages_of}
 use Rattle.spe_core.specs.Serial.{page_at}
-use Rattle.spe_core.specs.Sheets.{Sheets, has_sheet, sheet_at}
+use Rattle.spe_core.specs.Sheets.{Sheets, has_sheet, sheet_at, pages_at}
 use Rattle.spe_core.specs.Sound.{AreWorked}
 use Rattle.spe_core.specs.State.{Live, State}
 use Rattle.spe_core.proofs.SoundBare.{HasFilePages, IsBared, count_named, header_legal, small_enough}
@@ -33,9 +34,9 @@ unfolding pages_of
 pages_of_is content pages recovers = ap ok_or_none recovers
 
 -- the only journal that has bytes is cut
-pub cut_bares : (s : State) (id : ℕ) → AreBareBut s.content id → IsBared s.content (after s.content (cuts_of s id))
+pub cut_bares : (s : State) (id : ℕ) → AreBareBut s.content id → IsBared s.content (after s.content (cuts_of s.content id))
 cut_bares s id b = ⊎_elim
-    (λ (some : has_bytes s id ≡ true).
+    (λ (some : has_length s.content id ≡ true).
     rw some
     (record {
       database = journal_leaves s.content id [];
@@ -45,7 +46,7 @@ cut_bares s id b = ⊎_elim
           (λ (apart : other ≢ id). cut_leaves s.content id other (λ same. apart (sym same)) ∙ b.bare other apart)
           (cases_eq other id);
     }))
-    (λ (none : has_bytes s id ≡ false).
+    (λ (none : has_length s.content id ≡ false).
     rw none
     (record {
       database = refl;
@@ -55,7 +56,7 @@ cut_bares s id b = ⊎_elim
           (λ (apart : other ≢ id). b.bare other apart)
           (cases_eq other id);
     }))
-    (cases_Bool (has_bytes s id))
+    (cases_Bool (has_length s.content id))
 
 -- the page 1 that is next names the pages
 pub record IsNext (content : Content) (pages : List (List ℕ)) (written : Sheets) (next : Paging) : Type 0 where
@@ -95,7 +96,7 @@ header_next s written bytes may = by_result (header_of bytes) refl may
     by_result (Err fault) e no_may = absurd cc
     by_result (Ok h) e may_h = by_header h e (header_fields bytes h e) may_h
 
-pub next_named : (s : State) (pages : List (List ℕ)) (t : Live) (paging : Paging) → AreRecovered s.content pages → AreOf paging pages → may_commit s t ≡ true → IsNext s.content pages t.written (over paging t.written)
+pub next_named : (s : State) (pages : List (List ℕ)) (t : Live) (paging : Paging) → AreRecovered s.content pages → AreOf paging pages → may_commit s t ≡ true → IsNext s.content pages t.written (lay (pages_at t.written) paging)
 unfolding may_commit
 next_named s pages t paging r a may = by_found (sheet_at 1 t.written) refl may
   where
@@ -106,10 +107,10 @@ next_named s pages t paging r a may = by_found (sheet_at 1 t.written) refl may
     first = a.each 1 (omega arith) (some_pages s.content pages (opened s.content pages r.recovers))
 
     by_found : (found : Option (List ℕ)) → sheet_at 1 t.written ≡ found → option_map_or (λ page. is_next_header s t.written (header_of (take 100 page))) found true ≡ true
-        → IsNext s.content pages t.written (over paging t.written)
+        → IsNext s.content pages t.written (lay (pages_at t.written) paging)
     by_found None e may_none =
-        let same : over paging t.written 1 ≡ page_in pages 1 = ap (λ (o : Option (List ℕ)). unwrap_or o (paging 1)) e ∙ sym first in
-        let named : named_count (over paging t.written 1) ≡ length pages = ap named_count same ∙ count_named s.content pages r.recovers r.named in
+        let same : lay (pages_at t.written) paging 1 ≡ page_in pages 1 = ap (λ (o : Option (List ℕ)). unwrap_or o (paging 1)) e ∙ sym first in
+        let named : named_count (lay (pages_at t.written) paging 1) ≡ length pages = ap named_count same ∙ count_named s.content pages r.recovers r.named in
         record {
           header = rw same (header_legal s.content pages r.recovers);
           valid = rw same r.named.counted;
@@ -118,7 +119,7 @@ next_named s pages t paging r a may = by_found (sheet_at 1 t.written) refl may
           added = λ p above within. absurd (omega (arith, named));
         }
     by_found (Some page) e may_some =
-        let same : over paging t.written 1 ≡ page = ap (λ (o : Option (List ℕ)). unwrap_or o (paging 1)) e in
+        let same : lay (pages_at t.written) paging 1 ≡ page = ap (λ (o : Option (List ℕ)). unwrap_or o (paging 1)) e in
         let h : IsHeader s t.written (take 100 page) = header_next s t.written (take 100 page) may_some in
         record {
           header = rw same h.legal;
@@ -129,13 +130,13 @@ next_named s pages t paging r a may = by_found (sheet_at 1 t.written) refl may
         }
 
 module _ (content : Content) (pages new : List (List ℕ)) (id : ℕ) (t : Live) (paging : Paging) (r : AreRecovered content pages) (work : AreWorked content pages id t) (a : AreOf paging pages)
-    (n : IsNext content pages t.written (over paging t.written)) (b : AreOf (over paging t.written) new) where
+    (n : IsNext content pages t.written (lay (pages_at t.written) paging)) (b : AreOf (lay (pages_at t.written) paging) new) where
   -- a page of the file after the commit
-  new_page : (p : ℕ) → 1 ≤ p → p ≤ length new → (file_page content p ≡ over paging t.written p) × (length (file_page content p) ≡ file_page_size content)
+  new_page : (p : ℕ) → 1 ≤ p → p ≤ length new → (file_page content p ≡ lay (pages_at t.written) paging p) × (length (file_page content p) ≡ file_page_size content)
   new_page p low high = ⊎_elim
       (λ (found : (bytes : List ℕ) × (sheet_at p t.written ≡ Some bytes)).
       let own = work.written p found.0 found.1 in
-      let is : over paging t.written p ≡ found.0 = ap (λ (o : Option (List ℕ)). unwrap_or o (paging p)) found.1 in
+      let is : lay (pages_at t.written) paging p ≡ found.0 = ap (λ (o : Option (List ℕ)). unwrap_or o (paging p)) found.1 in
       (own.0 ∙ sym is, ap length own.0 ∙ own.1))
       (λ (lacks : has_sheet p t.written ≡ false).
       let counted : p ≤ length pages = ⊎_elim
@@ -154,7 +155,7 @@ module _ (content : Content) (pages new : List (List ℕ)) (id : ℕ) (t : Live)
   pub new_pages : HasFilePages content new
   new_pages =
       let some : 1 ≤ length new = let old : 1 ≤ length pages = some_pages content pages (opened content pages r.recovers) in omega (arith, b.count, n.low) in
-      let first : page_in new 1 ≡ over paging t.written 1 = b.each 1 (omega arith) some in
+      let first : page_in new 1 ≡ lay (pages_at t.written) paging 1 = b.each 1 (omega arith) some in
       record {
         header = rw first n.header;
         valid = rw first n.valid;

@@ -2,14 +2,15 @@
 use Rattle.std.proofs.Common.{◌≡◌, ℕ, zero, suc, ◌<◌, List, [], ◌∷◌, ◌++◌, length, refl, sym, ap, ◌∙◌, arith, subst, true, false, Option, Some, ⊎_elim, inl, inr}
 use Rattle.std.specs.Prelude.{◌⊎◌, not, is_some, slice_get}
 use Rattle.std.proofs.lemmas.Bool.{false_from_ne_true, not-true}
+use Rattle.spe_model.specs.Paging.{lay}
 use Rattle.spe_model.specs.Covered.{Recovers}
 use Rattle.spe_model.specs.Recovery.{file_page}
 use Rattle.spe_model.specs.Trace.{after}
 use Rattle.spe_core.specs.Changed.{committed, cuts_of, ended, update_live, updated, with_commit, with_live, with_made}
 use Rattle.spe_core.specs.Enabled.{has_changed, may_commit, where_going, where_working}
-use Rattle.spe_core.specs.Laid.{laid, over}
+use Rattle.spe_core.specs.Laid.{laid}
 use Rattle.spe_core.specs.Serial.{ReadFrom, page_at}
-use Rattle.spe_core.specs.Sheets.{has_sheet}
+use Rattle.spe_core.specs.Sheets.{has_sheet, pages_at}
 use Rattle.spe_core.specs.Sound.{IsSound, now_laid}
 use Rattle.spe_core.specs.State.{Committed, Live, State, live_of}
 use Rattle.spe_core.proofs.SoundBare.{HasFilePages, IsBared, bare_named, bare_recovers, bare_rests, old_pages}
@@ -34,14 +35,14 @@ unchanged s id t sound work none p bytes found =
     (work.files.placed p has)) in
     work.files.kept p bytes found lacks
 
-pub sound_roll_cut : (s : State) (id : ℕ) → IsSound s → where_going s id (λ t. not (has_changed t)) ≡ true → IsSound (with_made (update_live s id ended) (cuts_of s id))
+pub sound_roll_cut : (s : State) (id : ℕ) → IsSound s → where_going s id (λ t. not (has_changed t)) ≡ true → IsSound (with_made (update_live s id ended) (cuts_of s.content id))
 sound_roll_cut s id sound may =
     let g = going_with s id (λ t. not (has_changed t)) sound may in
-    let now = after s.content (cuts_of s id) in
+    let now = after s.content (cuts_of s.content id) in
     let b : IsBared s.content now = cut_bares s id (bare_but s.content (now_laid s) id g.t g.work.files) in
     let f : HasFilePages s.content (now_laid s) = old_pages s.content (now_laid s) sound.recovers sound.named (unchanged s id g.t sound g.work (not-true (has_changed g.t) g.passes)) in
-    subst (λ (o : Option Live). IsSound (with_made (updated s id ended o) (cuts_of s id))) (sym g.its)
-    (sound_like s (with_made (with_live s id (ended g.t)) (cuts_of s id)) refl refl sound (files_stay_after s.content (cuts_of s id) ∙ sound.files)
+    subst (λ (o : Option Live). IsSound (with_made (updated s id ended o) (cuts_of s.content id))) (sym g.its)
+    (sound_like s (with_made (with_live s id (ended g.t)) (cuts_of s.content id)) refl refl sound (files_stay_after s.content (cuts_of s.content id) ∙ sound.files)
     (bare_recovers s.content now (now_laid s) (now_laid s) sound.recovers b f)
     (has_ended s id g.t now (now_laid s) g.work (bare_rests s.content now (now_laid s) b f)))
 
@@ -58,15 +59,15 @@ get_last (y ∷ ys) c x (suc n) found = ⊎_elim
 abbrev commit_of : Live → Committed
 commit_of t = record { seen = t.seen; written = t.written }
 
-sound_committed : (s : State) (id : ℕ) (t : Live) → IsSound s → IsAtWork s id t → may_commit s t ≡ true → IsSound (with_made (with_live (with_commit s t) id (ended t)) (cuts_of s id))
+sound_committed : (s : State) (id : ℕ) (t : Live) → IsSound s → IsAtWork s id t → may_commit s t ≡ true → IsSound (with_made (with_live (with_commit s t) id (ended t)) (cuts_of s.content id))
 sound_committed s id t sound work may =
-    let other = with_made (with_live (with_commit s t) id (ended t)) (cuts_of s id) in
-    let now = after s.content (cuts_of s id) in
+    let other = with_made (with_live (with_commit s t) id (ended t)) (cuts_of s.content id) in
+    let now = after s.content (cuts_of s.content id) in
     let paging = paging_of s.opening s.commits in
     let r = recovered_of s sound in
     let a : AreOf paging (now_laid s) = counted_of paging (now_laid s) (laid_all s) in
     let n = next_named s (now_laid s) t paging r a may in
-    let new : AreOf (over paging t.written) (now_laid other) = counted_of (over paging t.written) (now_laid other) (laid_next s other (commit_of t) refl refl) in
+    let new : AreOf (lay (pages_at t.written) paging) (now_laid other) = counted_of (lay (pages_at t.written) paging) (now_laid other) (laid_next s other (commit_of t) refl refl) in
     let b : IsBared s.content now = cut_bares s id (bare_but s.content (now_laid s) id t work.files) in
     let f : HasFilePages s.content (now_laid other) = new_pages s.content (now_laid s) (now_laid other) id t paging r work.files a n new in
     let recovers : Recovers now (now_laid other) = bare_recovers s.content now (now_laid s) (now_laid other) sound.recovers b f in
@@ -79,15 +80,15 @@ sound_committed s id t sound work may =
           let same : laid other m ≡ now_laid s = laid_before s other (commit_of t) m refl refl (omega (arith, last.0)) ∙ ap (laid s) last.0 in
           subst (λ (pages : List (List ℕ)). ReadFrom pages c) (sym same) (subst (ReadFrom (now_laid s)) last.1 work.files.seen))
           (get_last s.commits (commit_of t) c m found);
-      files = files_stay_after s.content (cuts_of s id) ∙ sound.files;
+      files = files_stay_after s.content (cuts_of s.content id) ∙ sound.files;
       recovers = recovers;
       named = bare_named s.content now (now_laid other) b f recovers;
       doing = has_ended s id t now (now_laid other) work (bare_rests s.content now (now_laid other) b f);
     }
 
-pub sound_commit_cut : (s : State) (id : ℕ) → IsSound s → where_working s id (may_commit s) ≡ true → IsSound (with_made (update_live (committed s (live_of s id)) id ended) (cuts_of s id))
+pub sound_commit_cut : (s : State) (id : ℕ) → IsSound s → where_working s id (may_commit s) ≡ true → IsSound (with_made (update_live (committed s (live_of s id)) id ended) (cuts_of s.content id))
 sound_commit_cut s id sound may =
     let g = working_with s id (may_commit s) sound may in
-    subst (λ (o : Option Live). IsSound (with_made (update_live (committed s o) id ended) (cuts_of s id))) (sym g.its)
-    (subst (λ (o : Option Live). IsSound (with_made (updated (with_commit s g.t) id ended o) (cuts_of s id))) (sym g.its)
+    subst (λ (o : Option Live). IsSound (with_made (update_live (committed s o) id ended) (cuts_of s.content id))) (sym g.its)
+    (subst (λ (o : Option Live). IsSound (with_made (updated (with_commit s g.t) id ended o) (cuts_of s.content id))) (sym g.its)
     (sound_committed s id g.t sound g.work g.passes))

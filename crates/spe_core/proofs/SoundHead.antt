@@ -121,7 +121,7 @@ module _ (content : Content) (pages : List (List ℕ)) (id : ℕ) (t : Live) (r 
 
   -- a record is written
   pub record_made : IsStep (made_by (Write (Journal id) (length (journal_of content id)) (record_bytes (u32_at (journal_of content id) 12) page (file_page content page))) content) pages id
-      (with_journalled content page t)
+      (with_journalled page (file_page content page) t)
   record_made =
       let bytes = record_bytes begun.written.nonce page (file_page content page) in
       let s : Saved = record { page = page; content = file_page content page } in
@@ -129,7 +129,7 @@ module _ (content : Content) (pages : List (List ℕ)) (id : ℕ) (t : Live) (r 
       let now = made_by (Write (Journal id) (length (journal_of content id)) bytes) content in
       let is : now ≡ with_file content (Journal id) (journal_of content id ++ bytes) = written_behind content id bytes (omega (arith, long)) in
       let whole : take (length bytes) bytes ≡ bytes = take_all (length bytes) bytes (omega arith) in
-      let made : IsStep now pages id (with_journalled content page t) = record {
+      let made : IsStep now pages id (with_journalled page (file_page content page) t) = record {
         files = files_stay (Write (Journal id) (length (journal_of content id)) bytes) content ∙ r.files;
         recovers =
             behind_keeps content pages id bytes r.files (bare_but content pages id t work) (in_file content pages id t r work)

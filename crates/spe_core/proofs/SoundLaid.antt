@@ -7,11 +7,11 @@ use Rattle.spe_model.specs.declared.header.Header.{Header}
 use Rattle.spe_model.specs.declared.header.HeaderFault.{HeaderFault}
 use Rattle.spe_model.specs.Header.{faults, fields, has_fault, header_of, unless}
 use Rattle.spe_model.specs.Journal.{numbers_from}
-use Rattle.spe_model.specs.Paging.{Paging}
+use Rattle.spe_model.specs.Paging.{Paging, lay}
 use Rattle.spe_crash.proofs.NumbersLemmas.{pages_to-length}
-use Rattle.spe_core.specs.Laid.{alone, counted, laid, laid_over_by, named_count, over, page_in, pages_of}
+use Rattle.spe_core.specs.Laid.{alone, counted, laid, laid_over_by, named_count, page_in, pages_of}
 use Rattle.spe_core.specs.Serial.{page_at}
-use Rattle.spe_core.specs.Sheets.{Sheets, has_sheet}
+use Rattle.spe_core.specs.Sheets.{Sheets, has_sheet, pages_at}
 use Rattle.spe_core.specs.State.{Committed, State}
 use Rattle.spe_core.proofs.SoundPages.{is_at, page_counted}
 
@@ -30,9 +30,9 @@ laid_same s other opening commits n =
     ∙ ap (λ (cs : List Committed). counted (paging_of s.opening (take n cs))) commits
     ∙ sym (laid_is s n)
 
-laid_more : (pages : Paging) (cs : List Committed) (c : Committed) → laid_over_by pages (cs ++ c ∷ []) ≡ over (laid_over_by pages cs) c.written
+laid_more : (pages : Paging) (cs : List Committed) (c : Committed) → laid_over_by pages (cs ++ c ∷ []) ≡ lay (pages_at c.written) (laid_over_by pages cs)
 laid_more pages [] c = refl
-laid_more pages (x ∷ xs) c = laid_more (over pages x.written) xs c
+laid_more pages (x ∷ xs) c = laid_more (lay (pages_at x.written) pages) xs c
 
 -- one commit more changes nothing of the pages after those before it
 pub laid_before : (s other : State) (c : Committed) (n : ℕ) → other.opening ≡ s.opening → other.commits ≡ s.commits ++ c ∷ [] → n ≤ length s.commits → laid other n ≡ laid s n
@@ -47,7 +47,7 @@ laid_before s other c n opening commits within =
 pub laid_all : (s : State) → laid s (length s.commits) ≡ counted (paging_of s.opening s.commits)
 laid_all s = laid_is s (length s.commits) ∙ ap (λ (cs : List Committed). counted (paging_of s.opening cs)) (take_all (length s.commits) s.commits (omega arith))
 
-pub laid_next : (s other : State) (c : Committed) → other.opening ≡ s.opening → other.commits ≡ s.commits ++ c ∷ [] → laid other (length other.commits) ≡ counted (over (paging_of s.opening s.commits) c.written)
+pub laid_next : (s other : State) (c : Committed) → other.opening ≡ s.opening → other.commits ≡ s.commits ++ c ∷ [] → laid other (length other.commits) ≡ counted (lay (pages_at c.written) (paging_of s.opening s.commits))
 laid_next s other c opening commits =
     laid_all other
     ∙ ap (λ (bytes : List ℕ). counted (paging_of bytes other.commits)) opening

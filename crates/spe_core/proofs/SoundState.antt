@@ -72,6 +72,14 @@ at_work s id t sound is_served its going = ⊎_elim
     (cases_eq w.id id))
     (served s.mode s.live s.content (now_laid s) is_served sound.doing)
 
+-- a transaction has not ended only while the files are served
+unended_serves : (mode : Mode) (live : List (ℕ × Live)) (content : Content) (pages : List (List ℕ)) (id : ℕ) (t : Live) → live_in id live ≡ Some t → IsDoing mode live content pages → serves mode ≡ true
+unended_serves Serving live content pages id t its doing = refl
+unended_serves (Recovering left) live content pages id t its doing = absurd (let none : None ≡ Some t = ap (live_in id) (sym doing.nobody) ∙ its in cc)
+
+pub unended : (s : State) (id : ℕ) (t : Live) → IsSound s → live_in id s.live ≡ Some t → is_ended t ≡ false → IsAtWork s id t
+unended s id t sound its going = at_work s id t sound (unended_serves s.mode s.live s.content (now_laid s) id t its sound.doing) its going
+
 working_going : (phase : Phase) → phase_working phase ≡ true → phase_ended phase ≡ false
 working_going Working working = refl
 working_going Undoing working = refl

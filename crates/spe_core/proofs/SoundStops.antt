@@ -6,14 +6,14 @@ use Rattle.spe_model.specs.declared.file.FileNo.TheVariants.{Database}
 use Rattle.spe_model.specs.Content.{Content}
 use Rattle.spe_model.specs.Covered.{Recovers, first_place}
 use Rattle.spe_model.specs.Recovery.{journal_of}
-use Rattle.spe_model.specs.Rollback.{rule_of}
+use Rattle.spe_model.specs.Rollback.{rule_of, has_length}
 use Rattle.spe_model.specs.Trace.{Operation, after}
 use Rattle.spe_model.specs.Trace.Operation.{Write}
 use Rattle.spe_core.specs.declared.event.Event.{Event, out-Event}
 use Rattle.spe_core.specs.declared.event.Event.TheOpen.{Event-F}
 use Rattle.spe_core.specs.Opened.{Opened}
 use Rattle.spe_core.specs.Changed.{operations_of, page_write, recovery_left, recovery_op, stopped, torn_first, torn_of, undo_of_live, undo_writes, with_made}
-use Rattle.spe_core.specs.Enabled.{count_of, has_bytes, has_changed, is_page, is_page_for, is_step_enabled, is_stop_enabled, is_writable, makes_write, page_size_of, serves}
+use Rattle.spe_core.specs.Enabled.{count_of, has_changed, is_page, is_page_for, is_step_enabled, is_stop_enabled, is_writable, makes_write, page_size_of, serves}
 use Rattle.spe_core.specs.Sheets.{has_sheet}
 use Rattle.spe_core.specs.Sound.{IsDoing, IsSound, now_laid}
 use Rattle.spe_core.specs.State.{Live, Mode, Serving, Recovering, State, live_in}
@@ -41,11 +41,11 @@ recovery_torn live content pages (Recovering left) n recovers doing = op_torn li
 -- some first bytes of the write of an event are made
 event_torn : (s : State) (o : Opened) (n : ℕ) → IsSound s → makes_write s o ≡ true → is_step_enabled s o ≡ true → Recovers (after s.content (torn_first (operations_of s o) n)) (now_laid s)
 event_torn s (Event-F.OpenJournal id) n sound writes may =
-    let g = working_with s id (λ t. not (has_bytes s id)) sound may in
-    let none : journal_of s.content id ≡ [] = bare_journal s id (not-true (has_bytes s id) g.passes) in
+    let g = working_with s id (λ t. not (has_length s.content id)) sound may in
+    let none : journal_of s.content id ≡ [] = bare_journal s id (not-true (has_length s.content id) g.passes) in
     head_torn s.content (now_laid s) id g.t (recovered_of s sound) g.work.files (s.made % 2 ^ 32) (count_of s) (omega arith) none n
 event_torn s (Event-F.Journal id page) n sound writes may =
-    let g = working_with s id (λ t. has_bytes s id && is_page s page && not (has_sheet page t.journalled)) sound may in
+    let g = working_with s id (λ t. has_length s.content id && is_page s page && not (has_sheet page t.journalled)) sound may in
     record_torn s.content (now_laid s) id g.t (recovered_of s sound) g.work.files page (can_journal s id page g.t sound g.passes) n
 event_torn s (Event-F.WriteBytes id page bytes) n sound writes may =
     let g = working_with s id (λ t. is_page_for s page bytes && is_writable s page t) sound may in

@@ -1,9 +1,6 @@
 -- What becomes of the parts of a core.
-use Rattle.std.specs.Prelude.{◌≡◌, ℕ, List, [], ◌∷◌, length, if◌then◌else◌}
+use Rattle.std.specs.Prelude.{◌≡◌, ℕ, length}
 use Rattle.std.specs.Option.{option_map_or}
-use Rattle.spe_model.specs.Content.{Content}
-use Rattle.spe_model.specs.Rollback.{cut_of, has_length}
-use Rattle.spe_model.specs.Trace.{Operation}
 use Rattle.spe_core.specs.declared.parts.Parts.{Parts}
 use Rattle.spe_core.specs.Enabled.{count_of}
 use Rattle.spe_core.specs.Laid.{named_count}
@@ -15,10 +12,6 @@ use Rattle.spe_core.specs.State.{State, Live, live_of}
 pub record Becomes (old new : Parts) (s : State) : Type 0 where
   pub state : state_of new ≡ s
   pub pages : new.pages ≡ old.pages
-
--- the cut of a journal that has bytes
-abbrev pub cuts_in : Content → ℕ → List Operation
-cuts_in content id = if has_length content id then cut_of id ∷ [] else []
 
 -- the number that the page 1 names which a transaction wrote, else this one
 abbrev pub count_by : ℕ → Live → ℕ

@@ -8,7 +8,7 @@ use Rattle.spe_model.specs.Big.{u32_at}
 use Rattle.spe_model.specs.Content.{Content}
 use Rattle.spe_model.specs.Journal.{head_bytes, record_bytes}
 use Rattle.spe_model.specs.Recovery.{file_page, journal_of}
-use Rattle.spe_model.specs.Rollback.{cut_of, rule_of, write_of}
+use Rattle.spe_model.specs.Rollback.{cut_of, has_length, rule_of, write_of}
 use Rattle.spe_model.specs.Trace.{Operation, after}
 use Rattle.spe_model.specs.Trace.Operation.{Write, Cut}
 use Rattle.spe_core.specs.declared.event.Event.{Event, out-Event}
@@ -17,7 +17,7 @@ use Rattle.spe_core.specs.Opened.{Opened}
 use Rattle.spe_core.specs.Sheets.{Sheets, has_sheet, with_sheet, without_sheet}
 use Rattle.spe_core.specs.State.{State, Live, Working, Undoing, Ended, Image, Mode, Serving, Recovering, live_of}
 use Rattle.spe_core.specs.Laid.{pages_of}
-use Rattle.spe_core.specs.Enabled.{count_of, page_size_of, has_bytes, is_changed}
+use Rattle.spe_core.specs.Enabled.{count_of, page_size_of, is_changed}
 
 -- the transaction of an id becomes this
 abbrev pub with_live : State → ℕ → Live → State
@@ -34,7 +34,7 @@ fresh = record { seen = []; journalled = []; written = []; phase = Working }
 abbrev pub page_write : State → ℕ → List ℕ → Operation
 page_write s page bytes = write_of (page_size_of s) (record { page = page; content = bytes })
 
--- the head of a journal, with the low 32 bits of the number of operations made as its nonce
+-- the head of a journal; its nonce is how many operations were made, modulo 2^32
 abbrev pub head_write : State → ℕ → Operation
 head_write s id = Write (Journal id) 0 (head_bytes (s.made % 2 ^ 32) (count_of s) (page_size_of s))
 
@@ -45,8 +45,8 @@ record_write s id page =
     Write (Journal id) (length journal) (record_bytes (u32_at journal 12) page (file_page s.content page))
 
 -- a journal that has bytes is cut to none
-abbrev pub cuts_of : State → ℕ → List Operation
-cuts_of s id = if has_bytes s id then cut_of id ∷ [] else []
+abbrev pub cuts_of : Content → ℕ → List Operation
+cuts_of content id = if has_length content id then cut_of id ∷ [] else []
 
 -- the least journalled page that is written, with its bytes before
 abbrev pub undo_of : Live → Option (ℕ × List ℕ)
@@ -60,10 +60,6 @@ undo_writes s (Some sheet) = page_write s sheet.0 sheet.1 ∷ []
 abbrev pub first_only : List Operation → List Operation
 first_only [] = []
 first_only (o ∷ os) = o ∷ []
-
-abbrev pub all_but_first : List Operation → List Operation
-all_but_first [] = []
-all_but_first (o ∷ os) = os
 
 abbrev pub recovery_op : Mode → List Operation
 recovery_op Serving = []
@@ -83,9 +79,9 @@ abbrev pub operations_of : State → Opened → List Operation
 operations_of s (Event-F.OpenJournal id) = head_write s id ∷ []
 operations_of s (Event-F.Journal id page) = record_write s id page ∷ []
 operations_of s (Event-F.WriteBytes id page bytes) = page_write s page bytes ∷ []
-operations_of s (Event-F.CommitCut id) = cuts_of s id
+operations_of s (Event-F.CommitCut id) = cuts_of s.content id
 operations_of s (Event-F.UndoBytes id) = undo_writes s (undo_of_live (live_of s id))
-operations_of s (Event-F.RollCut id) = cuts_of s id
+operations_of s (Event-F.RollCut id) = cuts_of s.content id
 operations_of s Event-F.RecoverOp = recovery_op s.mode
 operations_of s _ = []
 
@@ -99,13 +95,16 @@ abbrev pub torn_of : State → Option Event → ℕ → List Operation
 torn_of s None n = []
 torn_of s (Some next) n = torn_first (operations_of s (out-Event next)) n
 
-abbrev pub with_read : Content → ℕ → Live → Live
-with_read content page t =
-    if has_sheet page t.written || has_sheet page t.seen then t
-    else record t { seen = with_sheet page (file_page content page) t.seen }
+-- with these bytes of a page listed as read, as journalled, or as written
+abbrev pub with_seen : ℕ → List ℕ → Live → Live
+with_seen page bytes t = record t { seen = with_sheet page bytes t.seen }
 
-abbrev pub with_journalled : Content → ℕ → Live → Live
-with_journalled content page t = record t { journalled = with_sheet page (file_page content page) t.journalled }
+-- the same, unless the page was read or written before
+abbrev pub with_read : ℕ → List ℕ → Live → Live
+with_read page bytes t = if has_sheet page t.written || has_sheet page t.seen then t else with_seen page bytes t
+
+abbrev pub with_journalled : ℕ → List ℕ → Live → Live
+with_journalled page bytes t = record t { journalled = with_sheet page bytes t.journalled }
 
 abbrev pub with_written : ℕ → List ℕ → Live → Live
 with_written page bytes t = record t { written = with_sheet page bytes t.written }
@@ -152,10 +151,10 @@ stopped s = record s {
 
 abbrev pub changed_at : State → Opened → State
 changed_at s (Event-F.Begin id) = with_live s id fresh
-changed_at s (Event-F.Read id page) = update_live s id (with_read s.content page)
+changed_at s (Event-F.Read id page) = update_live s id (with_read page (file_page s.content page))
 changed_at s (Event-F.OpenJournal id) = with_made s (operations_of s (Event-F.OpenJournal id))
 changed_at s (Event-F.Journal id page) =
-    with_made (update_live s id (with_journalled s.content page)) (operations_of s (Event-F.Journal id page))
+    with_made (update_live s id (with_journalled page (file_page s.content page))) (operations_of s (Event-F.Journal id page))
 changed_at s (Event-F.WriteBytes id page bytes) =
     with_made (update_live s id (with_written page bytes)) (operations_of s (Event-F.WriteBytes id page bytes))
 changed_at s (Event-F.CommitCut id) =

@@ -10,7 +10,8 @@ use Rattle.spe_model.specs.Big.{u32_at}
 use Rattle.spe_model.specs.Content.{bytes_of}
 use Rattle.spe_model.specs.Header.{header_of, is_size_valid}
 use Rattle.spe_model.specs.Journal.{numbers_from}
-use Rattle.spe_model.specs.Recovery.{file_page_size, journal_of}
+use Rattle.spe_model.specs.Recovery.{file_page_size}
+use Rattle.spe_model.specs.Rollback.{has_length}
 use Rattle.spe_model.specs.Trace.{Operation}
 use Rattle.spe_model.specs.Trace.Operation.{Write, Cut}
 use Rattle.spe_core.specs.declared.event.Event.{Event, out-Event}
@@ -53,10 +54,7 @@ where_going s id test = is_serving s && where_live s id (λ t. not (is_ended t) 
 unfoldable pub have_all_ended : State → Bool
 have_all_ended s = list_all (λ (t : ℕ × Live). is_ended t.1) s.live
 
-abbrev pub has_bytes : State → ℕ → Bool
-has_bytes s id = nat_lt 0 (length (journal_of s.content id))
-
--- the number at offset 28 of the page 1 that the transaction wrote
+-- the size in pages that a transaction wrote into its page 1, and 0 where it wrote none
 abbrev pub wanted_count : Live → ℕ
 wanted_count t = option_map_or (λ page. u32_at page 28) (sheet_at 1 t.written) 0
 
@@ -114,9 +112,9 @@ makes_write s _ = false
 abbrev pub is_step_enabled : State → Opened → Bool
 is_step_enabled s (Event-F.Begin id) = is_serving s && nat_lt id 16 && have_all_ended s
 is_step_enabled s (Event-F.Read id page) = where_working s id (λ t. is_page s page || has_sheet page t.written)
-is_step_enabled s (Event-F.OpenJournal id) = where_working s id (λ t. not (has_bytes s id))
+is_step_enabled s (Event-F.OpenJournal id) = where_working s id (λ t. not (has_length s.content id))
 is_step_enabled s (Event-F.Journal id page) =
-    where_working s id (λ t. has_bytes s id && is_page s page && not (has_sheet page t.journalled))
+    where_working s id (λ t. has_length s.content id && is_page s page && not (has_sheet page t.journalled))
 is_step_enabled s (Event-F.WriteBytes id page bytes) = where_working s id (λ t. is_page_for s page bytes && is_writable s page t)
 is_step_enabled s (Event-F.CommitCut id) = where_working s id (may_commit s)
 is_step_enabled s (Event-F.UndoBytes id) = where_going s id has_changed

@@ -2,9 +2,9 @@
 use Rattle.std.specs.Prelude.{ℕ, ◌-◌, List, [], ◌∷◌, take, map, replicate, Some, None, Result, Ok, Err, slice_get, unwrap_or}
 use Rattle.spe_model.specs.Content.{Content}
 use Rattle.spe_model.specs.Header.{fields}
-use Rattle.spe_model.specs.Paging.{Paging}
+use Rattle.spe_model.specs.Paging.{Paging, lay}
 use Rattle.spe_model.specs.Recovery.{pages_to, recovered}
-use Rattle.spe_core.specs.Sheets.{Sheets, sheet_at}
+use Rattle.spe_core.specs.Sheets.{pages_at}
 use Rattle.spe_core.specs.State.{State, Committed}
 
 abbrev pub ok_or_none : {X E : Type 0} → Result (List X) E → List X
@@ -22,14 +22,10 @@ alone bytes = Some bytes ∷ replicate 16 None
 abbrev pub page_in : List (List ℕ) → Paging
 page_in pages p = unwrap_or (slice_get pages (p - 1)) []
 
--- sheets laid over pages
-abbrev pub over : Paging → Sheets → Paging
-over pages sheets p = unwrap_or (sheet_at p sheets) (pages p)
-
 -- what some commits wrote, laid over pages one after the other
 abbrev pub laid_over_by : Paging → List Committed → Paging
 laid_over_by pages [] = pages
-laid_over_by pages (c ∷ cs) = laid_over_by (over pages c.written) cs
+laid_over_by pages (c ∷ cs) = laid_over_by (lay (pages_at c.written) pages) cs
 
 -- the number of pages that the header on page 1 names
 abbrev pub named_count : List ℕ → ℕ

@@ -17,11 +17,11 @@ mode_of (held.Recovering left) = Recovering (all_shown left.items)
 -- there are no locks and no read-only transactions yet
 abbrev pub state_of : Parts → State
 state_of parts = record {
-  opening = parts.opening;
+  opening = parts.opening.bytes;
   slots = parts.slots;
   content = parts.files;
   made = parts.made;
-  commits = parts.commits.items;
+  commits = parts.commits;
   images = parts.images.items;
   live = parts.live;
   locks = [];

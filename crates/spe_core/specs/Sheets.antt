@@ -2,6 +2,7 @@
 use Rattle.std.specs.Prelude.{ℕ, ◌==◌, not, Bool, List, [], ◌∷◌, filter, Option, Some, None, is_some, if◌then◌else◌}
 use Rattle.std.specs.Ordering.{nat_cmp}
 use Rattle.std.specs.BTreeMap.{insert_entry}
+use Rattle.spe_model.specs.Paging.{PageMap}
 
 abbrev pub Sheets : Type 0
 Sheets = List (ℕ × List ℕ)
@@ -10,6 +11,10 @@ Sheets = List (ℕ × List ℕ)
 abbrev pub sheet_at : ℕ → Sheets → Option (List ℕ)
 sheet_at p [] = None
 sheet_at p (s ∷ ss) = if s.0 == p then Some s.1 else sheet_at p ss
+
+-- they as pages by number
+abbrev pub pages_at : Sheets → PageMap
+pages_at sheets p = sheet_at p sheets
 
 abbrev pub has_sheet : ℕ → Sheets → Bool
 has_sheet p sheets = is_some (sheet_at p sheets)

@@ -10,20 +10,21 @@ ghost use Rattle.spe_core.specs.Laid.{named_count};
 
 use crate::files::Files;
 use crate::live::Live;
-use byteorder::{BigEndian, ByteOrder};
-use spe_model::FileNo;
+use spe_model::{FileNo, u16_of};
 
-// Where the size in pages stands on page 1.
+// Where the size of a page, and the size in pages, stand on page 1.
+const PAGE_SIZE_AT: usize = 16;
+
 const PAGES_AT: usize = 28;
 
 /// The size of a page, as the file's page 1 names it.
-#[tactic(auto, unfolding(spe_model::specs::Header::page_size_at, spe_model::specs::Big::u16_at))]
+#[tactic(auto, unfolding(spe_model::specs::Header::page_size_at))]
 pub fn page_size(files: &Files) -> u32
     requires { 100 ≤ length (bytes_of files.now Database) }
     ensures { result ≡ file_page_size files.now }
 {
     let (front, _) = files.bytes(FileNo::Database).split_at(100);
-    match BigEndian::read_u16(&front[16..]) {
+    match u16_of(front, PAGE_SIZE_AT) {
         1 => 65536,
         size => u32::from(size),
     }
@@ -37,7 +38,7 @@ fn byte_at(bytes: &[u8], at: usize) -> u8
 
 /// The number at a place near the front, where a byte that is missing counts as 0.
 #[tactic(auto, unfolding(spe_model::specs::Big::u32_at))]
-pub fn u32_of(bytes: &[u8], at: usize) -> u32
+pub fn number_at(bytes: &[u8], at: usize) -> u32
     requires { at ≤ 100 }
     ensures { result ≡ u32_at bytes.now at }
 {
@@ -54,7 +55,7 @@ pub fn wanted_count(t: &Live) -> u32
     ensures { result ≡ wanted_count t.now }
 {
     match t.written(1) {
-        Some(page) => u32_of(page, PAGES_AT),
+        Some(page) => number_at(page, PAGES_AT),
         None => 0,
     }
 }
@@ -71,5 +72,5 @@ pub fn front_of(page: &[u8]) -> &[u8]
 pub fn named_count(page: &[u8]) -> u32
     ensures { result ≡ named_count page.now }
 {
-    u32_of(front_of(page), PAGES_AT)
+    number_at(front_of(page), PAGES_AT)
 }

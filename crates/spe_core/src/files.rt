@@ -3,7 +3,7 @@
 ghost use Rattle.std.specs.Prelude.{◌≡◌};
 ghost use Rattle.spe_model.specs.Content.{place_of};
 
-use crate::operation::{Operation, Write};
+use crate::operation::{Operation, Write, part_of};
 use crate::stored::{Kept, Stored};
 use spe_model::FileNo;
 use std::alloc::{AllocError, Global};
@@ -27,10 +27,11 @@ impl Files {
     ghost use Rattle.std.specs.Prelude.{◌≡◌, ◌+◌, ◌≤◌, IfOk, OnOk, OnErr, length};
     ghost use Rattle.spe_model.specs.Content.{bytes_of};
     ghost use Rattle.spe_model.specs.Trace.{made_by};
-    ghost use Rattle.spe_model.specs.Trace.Operation.{Cut};
+    ghost use Rattle.spe_model.specs.Trace.Operation.{Cut, Write as TraceWrite};
+    ghost use Rattle.spe_model.specs.declared.file.FileNo.TheVariants.{Database};
     ghost use Rattle.spe_model.specs.Recovery.{file_page, file_page_size};
     ghost use Rattle.spe_core.specs.Laid.{alone};
-    ghost use Rattle.spe_model.specs.Rollback.{has_length};
+    ghost use Rattle.spe_model.specs.Rollback.{has_length, write_of};
     ghost use Rattle.spe_core.specs.Shown.{shown, write_shown};
     ghost use Rattle.spe_core.specs.Kept.{TakesFileBack, file_taken_back};
 
@@ -63,19 +64,35 @@ impl Files {
         !self.bytes(FileNo::Journal(id)).is_empty()
     }
 
+    // Writes bytes to a file, from byte `at` on.
+    fn write_at(&mut self, file: FileNo, at: u64, bytes: &[u8]) -> Result<(), AllocError>
+        ensures ok { OnOk result (self.new ≡ made_by (TraceWrite file at bytes.now) self.old) }
+        ensures err { OnErr result (self.new ≡ self.old) }
+    {
+        if bytes.is_empty() {
+            return Ok(());
+        }
+        let Some(held) = self.list.get_mut(place(file)) else {
+            return Ok(());
+        };
+        held.write(at as usize, bytes)
+    }
+
     /// Makes a write.
     pub fn write(&mut self, write: &Write) -> Result<(), AllocError>
         ensures ok { OnOk result (self.new ≡ made_by (write_shown write.now) self.old) }
         ensures err { OnErr result (self.new ≡ self.old) }
     {
-        let bytes = write.bytes.as_slice();
-        if bytes.is_empty() {
-            return Ok(());
-        }
-        let Some(held) = self.list.get_mut(place(write.file)) else {
-            return Ok(());
-        };
-        held.write(write.at as usize, bytes)
+        self.write_at(write.file, write.at, write.bytes.as_slice())
+    }
+
+    /// Writes the bytes of a page to the database file, of page 1 all but the first 24.
+    pub fn write_page(&mut self, page_size: u32, page: u32, bytes: &[u8]) -> Result<(), AllocError>
+        ensures ok { OnOk result (self.new ≡ made_by (write_of page_size (record { page = page; content = bytes.now })) self.old) }
+        ensures err { OnErr result (self.new ≡ self.old) }
+    {
+        let (at, part) = part_of(page_size, page, bytes);
+        self.write_at(FileNo::Database, at, part)
     }
 
     /// Cuts a file to at most this length.
@@ -106,8 +123,35 @@ impl Files {
     pub fn keep(&self, alloc: Global, write: &Write) -> Result<Kept, AllocError>
         ensures { IfOk result (λ kept. TakesFileBack kept write.now.file (made_by (write_shown write.now) self.now) self.now) }
     {
-        match self.list.get(place(write.file)) {
-            Some(held) => held.keep(alloc, write.at as usize, write.bytes.as_slice().len()),
+        self.keep_at(alloc, write.file, write.at, write.bytes.as_slice())
+    }
+
+    /// What is lost of the database file by a write of a page.
+    pub fn keep_page(
+        &self,
+        alloc: Global,
+        page_size: u32,
+        page: u32,
+        bytes: &[u8],
+    ) -> Result<Kept, AllocError>
+        ensures { IfOk result (λ kept. TakesFileBack kept Database (made_by (write_of page_size (record { page = page; content = bytes.now })) self.now) self.now) }
+    {
+        let (at, part) = part_of(page_size, page, bytes);
+        self.keep_at(alloc, FileNo::Database, at, part)
+    }
+
+    // What is lost of a file by a write of bytes, from byte `at` on.
+    fn keep_at(
+        &self,
+        alloc: Global,
+        file: FileNo,
+        at: u64,
+        bytes: &[u8],
+    ) -> Result<Kept, AllocError>
+        ensures { IfOk result (λ kept. TakesFileBack kept file (made_by (TraceWrite file at bytes.now) self.now) self.now) }
+    {
+        match self.list.get(place(file)) {
+            Some(held) => held.keep(alloc, at as usize, bytes.len()),
             None => Ok(Kept {
                 there: false,
                 size: 0,

@@ -1,26 +1,26 @@
 //! What ends a transaction.
 
-ghost use Rattle.std.specs.Prelude.{◌≡◌, ◌+◌, ◌≤◌, ◌<◌, ◌++◌, ◌∷◌, [], length, vec_capacity, IfOk, OnOk, OnErr};
+ghost use Rattle.std.specs.Prelude.{◌≡◌, ◌+◌, ◌≤◌, ◌++◌, length, vec_capacity, IfOk, OnOk, OnErr};
 ghost use Rattle.spe_model.specs.Trace.{after};
 ghost use Rattle.spe_core.specs.declared.event.Event.TheOpen.{Event-F};
-ghost use Rattle.spe_core.specs.Becomes.{Becomes, count_after, cuts_in, journalled_count};
+ghost use Rattle.spe_core.specs.Becomes.{Becomes, count_after, journalled_count};
 ghost use Rattle.spe_core.specs.Changed.{changed_at, cuts_of, images_of};
 ghost use Rattle.spe_core.specs.Parts.{IsReady, state_of};
 
 use crate::bytes::named_count;
-use crate::commit::{Committed, Image};
+use crate::commit::Image;
 use crate::files::Files;
-use crate::parts::Parts;
+use crate::parts::{Parts, one_more};
 use crate::sheets::Sheets;
 use spe_model::FileNo;
 use std::alloc::AllocError;
 
 // The number of operations made, with the cut of a journal that has bytes.
 fn made_with_cut(parts: &Parts, id: u8) -> Result<u64, AllocError>
-    ensures { IfOk result (λ made. made ≡ parts.now.made + length (cuts_of (state_of parts.now) id)) }
+    ensures { IfOk result (λ made. made ≡ parts.now.made + length (cuts_of parts.now.files id)) }
 {
     if parts.files.has_bytes(id) {
-        parts.next_made()
+        one_more(parts.made)
     } else {
         Ok(parts.made)
     }
@@ -28,7 +28,7 @@ fn made_with_cut(parts: &Parts, id: u8) -> Result<u64, AllocError>
 
 // Cuts a journal that has bytes to none.
 fn cut_journal(files: &mut Files, id: u8)
-    ensures { files.new ≡ after files.old (cuts_in files.old id) }
+    ensures { files.new ≡ after files.old (cuts_of files.old id) }
 {
     if files.has_bytes(id) {
         files.cut(FileNo::Journal(id), 0);
@@ -59,30 +59,13 @@ fn journalled_count(parts: &Parts, id: u8) -> usize
     }
 }
 
-// Adds a commit for which there is room.
-fn push_commit(commits: &mut Vec<Committed>, committed: Committed)
-    requires { length commits.old.items < vec_capacity commits.old }
-    ensures { commits.new.items ≡ commits.old.items ++ committed ∷ [] }
-{
-    let _pushed = commits.push(committed);
-}
-
-// Adds an image for which there is room.
-fn push_image(images: &mut Vec<Image>, image: Image)
-    requires { length images.old.items < vec_capacity images.old }
-    ensures items { images.new.items ≡ images.old.items ++ image ∷ [] }
-    ensures room { vec_capacity images.old ≤ vec_capacity images.new }
-{
-    let _pushed = images.push(image);
-}
-
 // Moves the pages before a commit behind the images, for which there is room.
 fn push_images(images: &mut Vec<Image>, stamp: u64, mut journalled: Sheets)
     requires { length images.old.items + length journalled ≤ vec_capacity images.old }
     ensures { images.new.items ≡ images.old.items ++ images_of stamp journalled }
 {
     while let Some((page, bytes)) = journalled.pop_first() {
-        push_image(images, Image { page, stamp, bytes });
+        images.push_reserved(Image { page, stamp, bytes });
     }
 }
 
@@ -96,11 +79,12 @@ pub fn commit_cut(parts: &mut Parts, id: u8) -> Result<(), AllocError>
     let made = made_with_cut(parts, id)?;
     let pages = count_after(parts, id);
     let count = journalled_count(parts, id);
-    parts.commits.reserve(1)?;
     parts.images.reserve(count)?;
-    let stamp = parts.commits.len() as u64 + 1;
-    if let Some((committed, journalled)) = parts.live.end(parts.alloc, id) {
-        push_commit(&mut parts.commits, committed);
+    let stamp = one_more(parts.commits.len())?;
+    if let Some(t) = parts.live.get(id) {
+        parts.commits.push(t)?;
+    }
+    if let Some(journalled) = parts.live.end(parts.alloc, id) {
         push_images(&mut parts.images, stamp, journalled);
     }
     cut_journal(&mut parts.files, id);

@@ -1,6 +1,7 @@
 //! What a transaction, a stop and a recovery do to the files of a database: a pure machine of events.
 #![tactic(auto)]
 
+mod beginning;
 mod bytes;
 mod commit;
 mod enabled;
@@ -9,6 +10,7 @@ mod files;
 mod finish;
 mod live;
 mod lives;
+mod log;
 mod machine;
 mod opening;
 mod operation;

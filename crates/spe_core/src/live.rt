@@ -1,6 +1,5 @@
 //! A live transaction.
 
-use crate::commit::Committed;
 use crate::sheets::Sheets;
 use spe_model::Bytes;
 use std::alloc::{AllocError, Global};
@@ -152,16 +151,15 @@ impl Live {
         self.phase = Phase::Undoing;
     }
 
-    /// Ends, with the lists of what was read and written, and of what was journalled.
-    pub fn end(&mut self, alloc: Global) -> (Committed, Sheets)
+    /// Ends, with the list of what was journalled.
+    pub fn end(&mut self, alloc: Global) -> Sheets
         ensures ended { self.new ≡ ended self.old }
-        ensures committed { result.0 ≡ record { seen = self.old.seen; written = self.old.written } }
-        ensures journalled { result.1 ≡ self.old.journalled }
+        ensures journalled { result ≡ self.old.journalled }
     {
-        let seen = mem::replace(&mut self.seen, Sheets::new(alloc));
-        let written = mem::replace(&mut self.written, Sheets::new(alloc));
+        self.seen = Sheets::new(alloc);
+        self.written = Sheets::new(alloc);
         let journalled = mem::replace(&mut self.journalled, Sheets::new(alloc));
         self.phase = Phase::Ended;
-        (Committed { seen, written }, journalled)
+        journalled
     }
 }

@@ -1,6 +1,5 @@
 //! The live transactions, by their numbers.
 
-use crate::commit::Committed;
 use crate::live::Live;
 use crate::sheets::Sheets;
 use spe_model::Bytes;
@@ -30,10 +29,10 @@ impl Model for Lives {
 impl Lives {
     ghost use Rattle.std.specs.Prelude.{◌≡◌, [], false, IsTrue, OnOk, OnErr, List, Some, ℕ};
     ghost use Rattle.std.specs.List.{list_all};
-    ghost use Rattle.std.specs.Option.{option_copied};
+    ghost use Rattle.std.specs.Option.{option_copied, option_map};
     ghost use Rattle.spe_core.specs.State.{Live as State, live_in, is_ended};
-    ghost use Rattle.spe_core.specs.Changed.{with_written, undone, ended};
-    ghost use Rattle.spe_core.specs.Lives.{updated_in, with_live_in, with_seen, with_saved, with_noted, Leaves};
+    ghost use Rattle.spe_core.specs.Changed.{with_seen, with_read, with_journalled, with_written, undo_of_live, undone, ended};
+    ghost use Rattle.spe_core.specs.Lives.{updated_in, with_live_in, Leaves};
 
     /// No transactions.
     pub fn new(alloc: Global) -> Lives
@@ -81,8 +80,8 @@ impl Lives {
 
     /// Whether the transaction of a number is not live, or read or wrote a page already.
     pub fn has_read(&self, id: u8, page: u32) -> bool
-        ensures stays { IsTrue result → (bytes : List ℕ) → updated_in id (with_noted page bytes) self.now ≡ self.now }
-        ensures notes { result ≡ false → (bytes : List ℕ) → updated_in id (with_noted page bytes) self.now ≡ updated_in id (with_seen page bytes) self.now }
+        ensures stays { IsTrue result → (bytes : List ℕ) → updated_in id (with_read page bytes) self.now ≡ self.now }
+        ensures notes { result ≡ false → (bytes : List ℕ) → updated_in id (with_read page bytes) self.now ≡ updated_in id (with_seen page bytes) self.now }
     {
         match self.map.get(&id) {
             Some(t) => t.has_read(page),
@@ -103,7 +102,7 @@ impl Lives {
 
     /// Lists a page as journalled by it.
     pub fn note_journalled(&mut self, id: u8, page: u32, bytes: Bytes) -> Result<(), AllocError>
-        ensures ok { OnOk result (self.new ≡ updated_in id (with_saved page bytes) self.old) }
+        ensures ok { OnOk result (self.new ≡ updated_in id (with_journalled page bytes) self.old) }
         ensures err { OnErr result (self.new ≡ self.old) }
     {
         let Some(t) = self.map.get_mut(&id) else {
@@ -123,6 +122,16 @@ impl Lives {
         t.note_written(page, bytes)
     }
 
+    /// The least page that it journalled and wrote, with its bytes before.
+    pub fn first_changed(&self, id: u8) -> Option<(u32, &[u8])>
+        ensures { option_map (λ p. (p.0, p.1.now)) result ≡ undo_of_live (live_in id self.now) }
+    {
+        match self.get(id) {
+            Some(t) => t.first_changed(),
+            None => None,
+        }
+    }
+
     /// The least page that it journalled and wrote has its old bytes again.
     pub fn undo(&mut self, id: u8, page: u32)
         ensures { (bytes : List ℕ) → self.new ≡ updated_in id (undone (Some (page, bytes))) self.old }
@@ -133,8 +142,8 @@ impl Lives {
         t.undo(page);
     }
 
-    /// Ends it, with the lists of what it read and wrote, and of what it journalled.
-    pub fn end(&mut self, alloc: Global, id: u8) -> Option<(Committed, Sheets)>
+    /// Ends it, with the list of what it journalled.
+    pub fn end(&mut self, alloc: Global, id: u8) -> Option<Sheets>
         ensures ended { self.new ≡ updated_in id ended self.old }
         ensures left { Leaves (live_in id self.old) result }
     {

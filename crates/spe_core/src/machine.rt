@@ -1,7 +1,8 @@
 //! The core.
 
+use crate::beginning::Beginning;
 use crate::bytes::named_count;
-use crate::enabled::is_serving;
+use crate::commit::Commits;
 use crate::files::Files;
 use crate::lives::Lives;
 use crate::parts::{Mode, Parts};
@@ -11,10 +12,11 @@ use std::marker::Model;
 
 /// The core of the engine: its files, its transactions, and what was committed.
 ///
-/// It holds in memory the bytes with which it began, the files as they are, and what each commit read
-/// and wrote. No step copies or goes through the database: it takes time and memory for the pages that
-/// its event names, a commit also for the pages that its transaction journalled, and a stop for the
-/// bytes of the journals.
+/// It holds in memory the files as they are, what the transactions that go on have done, and images
+/// of pages before commits. No step goes through the database or, but for the growth of its buffer,
+/// copies it. A step takes time and memory for the pages that its event names; one that ends a
+/// transaction, or finds nothing to undo, also for the pages that were journalled and written, and a
+/// stop for the bytes of the journals.
 #[derive(Drop)]
 pub struct Core {
     pub(crate) parts: Parts,
@@ -35,29 +37,28 @@ impl Model for Core {
 impl Core {
     ghost use Rattle.std.specs.Prelude.{◌≡◌, length, IfOk};
     ghost use Rattle.spe_model.specs.Content.{bytes_of};
-    ghost use Rattle.spe_core.specs.Enabled.{is_serving};
     ghost use Rattle.spe_core.specs.Opening.{AreSlots, IsOpening, opened};
 
     /// A core that serves a database file of these bytes, with so many locks.
     ///
-    /// The bytes are copied once. The only error is want of memory.
+    /// The only error is want of memory.
     pub fn new(alloc: Global, pages: Bytes, slots: u32) -> Result<Core, AllocError>
         requires opening { IsOpening pages }
         requires slots { AreSlots slots }
         ensures { IfOk result (λ core. core ≡ opened pages slots) }
     {
-        let bytes = pages.as_slice();
-        let count = named_count(bytes);
-        let files = Files::alone(alloc, Vec::from_slice(alloc, bytes)?)?;
+        let opening = Beginning::of(&pages);
+        let count = named_count(pages.as_slice());
+        let files = Files::alone(alloc, pages.into_vec())?;
         Ok(Core {
             parts: Parts {
                 alloc,
-                opening: pages,
+                opening,
                 slots,
                 files,
                 pages: count,
                 made: 0,
-                commits: Vec::new(alloc),
+                commits: Commits::new(),
                 images: Vec::new(alloc),
                 live: Lives::new(alloc),
                 mode: Mode::Serving,
@@ -73,16 +74,9 @@ impl Core {
     }
 
     /// How many transactions were committed.
-    pub fn commit_count(&self) -> usize
+    pub fn commit_count(&self) -> u64
         ensures { result ≡ length self.now.commits }
     {
         self.parts.commits.len()
-    }
-
-    /// Whether the files are served, and not being recovered.
-    pub fn is_serving(&self) -> bool
-        ensures { result ≡ is_serving self.now }
-    {
-        is_serving(&self.parts)
     }
 }

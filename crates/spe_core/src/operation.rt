@@ -31,8 +31,8 @@ pub enum Operation {
 /// Where the bytes of page 1 begin that are ever written.
 const REST_AT: usize = 24;
 
-// Which bytes of a page are written, and from where on.
-fn part_of(page_size: u32, page: u32, bytes: &[u8]) -> (u64, &[u8])
+/// Which bytes of a page are written, and from where on.
+pub fn part_of(page_size: u32, page: u32, bytes: &[u8]) -> (u64, &[u8])
     ensures { TraceWrite Database result.0 result.1.now ≡ write_of page_size (record { page = page; content = bytes.now }) }
 {
     if page == 1 {

@@ -2,11 +2,11 @@
 
 ghost use Rattle.std.specs.Prelude.{◌≡◌, ◌+◌, IfOk};
 
-use crate::commit::{Committed, Image};
+use crate::beginning::Beginning;
+use crate::commit::{Commits, Image};
 use crate::files::Files;
 use crate::lives::Lives;
 use crate::operation::Operation;
-use spe_model::Bytes;
 use std::alloc::{AllocError, Global};
 use std::collections::VecDeque;
 
@@ -21,25 +21,23 @@ pub enum Mode {
 #[derive(Drop)]
 pub struct Parts {
     pub alloc: Global,
-    pub opening: Bytes,
+    pub opening: Beginning,
     pub slots: u32,
     pub files: Files,
     pub pages: u32,
     pub made: u64,
-    pub commits: Vec<Committed>,
+    pub commits: Commits,
     pub images: Vec<Image>,
     pub live: Lives,
     pub mode: Mode,
 }
 
-impl Parts {
-    /// The number of operations made, with one more.
-    pub fn next_made(&self) -> Result<u64, AllocError>
-        ensures { IfOk result (λ made. made ≡ self.now.made + 1) }
-    {
-        match self.made.checked_add(1) {
-            Some(made) => Ok(made),
-            None => Err(AllocError),
-        }
+/// The number of operations made, with one more.
+pub fn one_more(made: u64) -> Result<u64, AllocError>
+    ensures { IfOk result (λ more. more ≡ made + 1) }
+{
+    match made.checked_add(1) {
+        Some(more) => Ok(more),
+        None => Err(AllocError),
     }
 }

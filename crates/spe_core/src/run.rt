@@ -32,6 +32,7 @@ pub fn run_events(core: &mut Core, events: &Events) -> Result<u64, AllocError>
     ensures serial { IsSerial core.new }
     ensures always { (events : List Event) → IsSerial (after_events core.old events) }
 {
+    // Names the parts, so that what holds of them is known from the first event on.
     let _parts = &core.parts;
     let mut done: u64 = 0;
     let mut left = events.as_slice();

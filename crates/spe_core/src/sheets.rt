@@ -63,11 +63,13 @@ impl Sheets {
     }
 
     /// The least page that is among others too, with its bytes here.
+    ///
+    /// It goes through the others up to that page, and looks each up here.
     pub fn first_among(&self, others: &Sheets) -> Option<(u32, &[u8])>
         ensures { option_map (λ p. (p.0, p.1.now)) result ≡ find (λ s. has_sheet s.0 others.now) self.now }
     {
-        for (page, bytes) in &self.map {
-            if others.has(*page) {
+        for (page, _) in &others.map {
+            if let Some(bytes) = self.map.get(page) {
                 return Some((*page, bytes.as_slice()));
             }
         }

@@ -43,8 +43,8 @@ fn make(parts: &mut Parts, event: &Event) -> Result<(), AllocError>
 
 /// Makes an event where it is enabled, and changes nothing where it is not.
 ///
-/// The only error is want of memory, which is also answered where the number of operations made is
-/// at the greatest number of its type.
+/// The only error is want of memory, which is also answered where the number of operations made, or
+/// of commits, is at the greatest number of its type.
 pub fn step(core: &mut Core, event: &Event) -> Result<Answer, AllocError>
     ensures answer { IfOk result (λ answer. answer ≡ answer_of core.old event.now) }
     ensures next { OnOk result (core.new ≡ next core.old event.now) }

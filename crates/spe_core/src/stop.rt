@@ -17,7 +17,7 @@ use crate::bytes::page_size;
 use crate::event::Event;
 use crate::files::Files;
 use crate::operation::{Operation, Write};
-use crate::parts::{Mode, Parts};
+use crate::parts::{Mode, Parts, one_more};
 use crate::plan::rule_of;
 use crate::writes::torn_write;
 use sqlite_items::Boxed;
@@ -95,8 +95,8 @@ pub fn recover_op(parts: &mut Parts) -> Result<(), AllocError>
     ensures ok { OnOk result (Becomes parts.old parts.new (changed_at (state_of parts.old) Event-F.RecoverOp)) }
     ensures err { OnErr result (Becomes parts.old parts.new (state_of parts.old)) }
 {
-    let made = parts.next_made()?;
     if let Some(op) = first_left(&parts.mode) {
+        let made = one_more(parts.made)?;
         parts.files.make(op)?;
         parts.made = made;
     }

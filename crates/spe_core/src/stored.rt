@@ -37,7 +37,7 @@ impl Model for Stored {
 }
 
 impl Stored {
-    ghost use Rattle.std.specs.Prelude.{◌≡◌, ◌≤◌, ◌+◌, [], is_some, Some, None, IfOk, OnOk, OnErr, length, take, unwrap_or};
+    ghost use Rattle.std.specs.Prelude.{◌≡◌, ◌≤◌, ◌+◌, [], Some, None, IfOk, OnOk, OnErr, length, take, unwrap_or};
     ghost use Rattle.spe_model.specs.Trace.{laid_over};
     ghost use Rattle.spe_core.specs.Kept.{taken_back, Keeps};
 
@@ -63,13 +63,6 @@ impl Stored {
         ensures { result.now ≡ unwrap_or self.now [] }
     {
         self.bytes.as_slice()
-    }
-
-    /// Whether the file is there.
-    pub fn is_there(&self) -> bool
-        ensures { result ≡ is_some self.now }
-    {
-        self.there
     }
 
     /// Lays bytes over those from byte `at` on, with zeros in a gap before them.

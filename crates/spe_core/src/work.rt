@@ -10,9 +10,9 @@ ghost use Rattle.spe_core.specs.Parts.{IsReady, state_of};
 
 use crate::bytes::page_size;
 use crate::live::Live;
-use crate::parts::Parts;
-use crate::writes::{bytes_write, first_changed, head_write, record_write};
-use spe_model::Bytes;
+use crate::parts::{Parts, one_more};
+use crate::writes::{head_write, record_write};
+use spe_model::{Bytes, FileNo};
 use std::alloc::AllocError;
 
 // A copy of a page of the file.
@@ -51,7 +51,7 @@ pub fn open_journal(parts: &mut Parts, id: u8) -> Result<(), AllocError>
     ensures ok { OnOk result (Becomes parts.old parts.new (changed_at (state_of parts.old) (Event-F.OpenJournal id))) }
     ensures err { OnErr result (Becomes parts.old parts.new (state_of parts.old)) }
 {
-    let made = parts.next_made()?;
+    let made = one_more(parts.made)?;
     let write = head_write(parts, id)?;
     parts.files.write(&write)?;
     parts.made = made;
@@ -64,7 +64,7 @@ pub fn journal(parts: &mut Parts, id: u8, page: u32) -> Result<(), AllocError>
     ensures ok { OnOk result (Becomes parts.old parts.new (changed_at (state_of parts.old) (Event-F.Journal id page))) }
     ensures err { OnErr result (Becomes parts.old parts.new (state_of parts.old)) }
 {
-    let made = parts.next_made()?;
+    let made = one_more(parts.made)?;
     let bytes = page_of(parts, page)?;
     let write = record_write(parts, id, page)?;
     let kept = parts.files.keep(parts.alloc, &write)?;
@@ -83,13 +83,13 @@ pub fn write_bytes(parts: &mut Parts, id: u8, page: u32, bytes: &[u8]) -> Result
     ensures ok { OnOk result (Becomes parts.old parts.new (changed_at (state_of parts.old) (Event-F.WriteBytes id page bytes.now))) }
     ensures err { OnErr result (Becomes parts.old parts.new (state_of parts.old)) }
 {
-    let made = parts.next_made()?;
+    let made = one_more(parts.made)?;
     let copy = Bytes::new(Vec::from_slice(parts.alloc, bytes)?);
-    let write = bytes_write(parts, page, bytes)?;
-    let kept = parts.files.keep(parts.alloc, &write)?;
-    parts.files.write(&write)?;
+    let size = page_size(&parts.files);
+    let kept = parts.files.keep_page(parts.alloc, size, page, bytes)?;
+    parts.files.write_page(size, page, bytes)?;
     if parts.live.note_written(id, page, copy).is_err() {
-        parts.files.take_back(write.file, &kept);
+        parts.files.take_back(FileNo::Database, &kept);
         return Err(AllocError);
     }
     parts.made = made;
@@ -103,12 +103,12 @@ pub fn undo_bytes(parts: &mut Parts, id: u8) -> Result<(), AllocError>
     ensures ok { OnOk result (Becomes parts.old parts.new (changed_at (state_of parts.old) (Event-F.UndoBytes id))) }
     ensures err { OnErr result (Becomes parts.old parts.new (state_of parts.old)) }
 {
-    let Some((page, bytes)) = first_changed(parts, id) else {
+    let size = page_size(&parts.files);
+    let Some((page, bytes)) = parts.live.first_changed(id) else {
         return Ok(());
     };
-    let made = parts.next_made()?;
-    let write = bytes_write(parts, page, bytes)?;
-    parts.files.write(&write)?;
+    let made = one_more(parts.made)?;
+    parts.files.write_page(size, page, bytes)?;
     parts.live.undo(id, page);
     parts.made = made;
     Ok(())

@@ -1,14 +1,13 @@
 //! The writes that events make.
 
 ghost use Rattle.std.specs.Prelude.{◌≡◌, ℕ, IfOk};
-ghost use Rattle.std.specs.Option.{option_map};
 ghost use Rattle.spe_core.specs.declared.event.Event.{out-Event};
 ghost use Rattle.spe_core.specs.State.{live_of};
 ghost use Rattle.spe_core.specs.Changed.{head_write, record_write, page_write, undo_of_live, undo_writes, operations_of, recovery_op, torn_first, torn_of};
 ghost use Rattle.spe_core.specs.Parts.{IsReady, mode_of, state_of};
 ghost use Rattle.spe_core.specs.Shown.{write_shown, writes_shown, torn_shown};
 
-use crate::bytes::{page_size, u32_of};
+use crate::bytes::{number_at, page_size};
 use crate::event::Event;
 use crate::operation::{Operation, Write, copy_of, page_write, torn};
 use crate::parts::{Mode, Parts};
@@ -20,7 +19,7 @@ use std::alloc::AllocError;
 // Where the nonce of a journal stands.
 const NONCE_AT: usize = 12;
 
-/// The write of the head of a journal, with the low 32 bits of the number of operations as its nonce.
+/// The write of the head of a journal. Its nonce is how many operations were made, modulo 2^32.
 pub fn head_write(parts: &Parts, id: u8) -> Result<Write, AllocError>
     requires { IsReady parts.now }
     ensures { IfOk result (λ write. write_shown write ≡ head_write (state_of parts.now) id) }
@@ -43,7 +42,7 @@ pub fn record_write(parts: &Parts, id: u8, page: u32) -> Result<Write, AllocErro
     let journal = parts.files.bytes(FileNo::Journal(id));
     let content = parts.files.page(page_size(&parts.files), page);
     let mut record = vec![in parts.alloc; 0u8; content.len() + 8]?;
-    put_record(u32_of(journal, NONCE_AT), page, content, &mut record);
+    put_record(number_at(journal, NONCE_AT), page, content, &mut record);
     Ok(Write {
         file: FileNo::Journal(id),
         at: journal.len() as u64,
@@ -51,22 +50,12 @@ pub fn record_write(parts: &Parts, id: u8, page: u32) -> Result<Write, AllocErro
     })
 }
 
-/// The write of the bytes of a page.
-pub fn bytes_write(parts: &Parts, page: u32, bytes: &[u8]) -> Result<Write, AllocError>
+// The write of the bytes of a page.
+fn bytes_write(parts: &Parts, page: u32, bytes: &[u8]) -> Result<Write, AllocError>
     requires { IsReady parts.now }
     ensures { IfOk result (λ write. write_shown write ≡ page_write (state_of parts.now) page bytes.now) }
 {
     page_write(parts.alloc, page_size(&parts.files), page, bytes)
-}
-
-/// The least page that a transaction journalled and wrote, with its bytes before.
-pub fn first_changed(parts: &Parts, id: u8) -> Option<(u32, &[u8])>
-    ensures { option_map (λ p. (p.0, p.1.now)) result ≡ undo_of_live (live_of (state_of parts.now) id) }
-{
-    match parts.live.get(id) {
-        Some(t) => t.first_changed(),
-        None => None,
-    }
 }
 
 // The write that gives a page its old bytes.
@@ -74,7 +63,7 @@ fn undo_write(parts: &Parts, id: u8) -> Result<Option<Write>, AllocError>
     requires { IsReady parts.now }
     ensures { IfOk result (λ write. writes_shown write ≡ undo_writes (state_of parts.now) (undo_of_live (live_of (state_of parts.now) id))) }
 {
-    match first_changed(parts, id) {
+    match parts.live.first_changed(id) {
         Some((page, bytes)) => Ok(Some(bytes_write(parts, page, bytes)?)),
         None => Ok(None),
     }

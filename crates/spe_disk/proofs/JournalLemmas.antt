@@ -19,7 +19,7 @@ pub there_is : (content : Content) (n : ℕ) → is_none (file_of content (Journ
 unfolding absent_among
 there_is content n there = rw there refl
 
-absent_same : (now content : Content) (n : ℕ) → file_of now (Journal n) ≡ file_of content (Journal n) → absent_among now (n ∷ []) ≡ absent_among content (n ∷ [])
+pub absent_same : (now content : Content) (n : ℕ) → file_of now (Journal n) ≡ file_of content (Journal n) → absent_among now (n ∷ []) ≡ absent_among content (n ∷ [])
 unfolding absent_among
 absent_same now content n same = rw same refl
 
@@ -54,7 +54,7 @@ below_more content n =
     let range : range_with_len 0 (n + 1) ≡ range_with_len 0 n ++ n ∷ [] = ap (range_with_len 0) (add-one n) ∙ range_more 0 n ∙ ap (λ (k : ℕ). range_with_len 0 n ++ k ∷ []) (zero-add n) in
     rw range (filter-append _ (range_with_len 0 n) (n ∷ []))
 
-below_front : (content : Content) (n k : ℕ) → (rest : List ℕ) × (absent_below content (n + k) ≡ absent_below content n ++ rest)
+pub below_front : (content : Content) (n k : ℕ) → (rest : List ℕ) × (absent_below content (n + k) ≡ absent_below content n ++ rest)
 below_front content n zero = ([], ap (absent_below content) (add-zero n) ∙ sym (append-nil (absent_below content n)))
 below_front content n (suc k) =
     let before = below_front content n k in

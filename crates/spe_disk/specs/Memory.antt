@@ -1,7 +1,10 @@
 -- What a disk in memory tells.
-use Rattle.std.specs.Prelude.{◌≡◌, ℕ, ◌-◌, ◌||◌, ◌&&◌, not, nat_lt, nat_le, Bool, false, List, [], ◌∷◌, ◌++◌, length, replicate, None, Result, is_err, if◌then◌else◌}
+use Rattle.std.specs.Prelude.{◌≡◌, ℕ, ◌-◌, ◌||◌, ◌&&◌, not, nat_lt, nat_le, Bool, true, false, List, [], ◌∷◌, ◌++◌, length, replicate, None, Result, Ok, Err, is_err, if◌then◌else◌}
 use Rattle.spe_model.specs.Content.{Content}
-use Rattle.spe_model.specs.Trace.{Operation, History}
+use Rattle.spe_model.specs.declared.file.FileNo.TheVariants.{Journal}
+use Rattle.spe_model.specs.Trace.{Operation, History, present}
+use Rattle.spe_model.specs.Trace.Operation.{Cut}
+use Rattle.spe_disk.specs.Told.{absent_journals}
 use Rattle.spe_disk.specs.Listed.{next_number, is_listed}
 use Rattle.spe_disk.specs.declared.disk.Failed.{Failed}
 use Rattle.spe_disk.specs.declared.memory.Faults.{Faults}
@@ -90,10 +93,34 @@ pub record ReadsAsListed {T : Type 0} (old new : MemDisk) (result : Result T Fai
   pub same : IsSameDisk old new
 
 -- An operation fails exactly where it is listed or does not fit. It is made where it fits and is not listed, or the disk makes the listed ones.
-pub record OperatesAsListed {T : Type 0} (old new : MemDisk) (operation : Operation) (taken : ℕ) (result : Result T Failed) : Type 0 where
-  pub fails : is_err result ≡ (is_op_listed old || not (fits old taken))
+pub record TriesAsListed (old new : MemDisk) (operation : Operation) (taken : ℕ) (failed : Bool) : Type 0 where
+  pub fails : failed ≡ (is_op_listed old || not (fits old taken))
   pub trace : trace_of new ≡ (if makes old taken then trace_of old ++ operation ∷ [] else trace_of old)
   pub room : free_room new ≡ (if makes old taken then free_room old - taken else free_room old)
   pub reads : read_count new ≡ read_count old
   pub tried : try_count new ≡ next_number (try_count old)
   pub same : IsSameDisk old new
+
+-- the same of a call that makes one operation
+abbrev pub OperatesAsListed : {T : Type 0} → (old new : MemDisk) → Operation → (taken : ℕ) → Result T Failed → Type 0
+OperatesAsListed old new operation taken result = TriesAsListed old new operation taken (is_err result)
+
+-- The journals of these numbers were made one after the other, each by one operation that did not fail.
+abbrev pub AreMadeAsListed : List ℕ → (old new : MemDisk) → Type 0
+AreMadeAsListed [] old new = new ≡ old
+AreMadeAsListed (n ∷ ns) old new = (next : MemDisk) × TriesAsListed old next (Cut (Journal n) 0) 0 false × AreMadeAsListed ns next new
+
+-- Some first of them were, and the operation for the next one failed.
+pub record FailsAsListed (numbers : List ℕ) (old new : MemDisk) : Type 0 where
+  pub front : List ℕ
+  pub failing : ℕ
+  pub rest : List ℕ
+  pub parts : numbers ≡ front ++ failing ∷ rest
+  pub before : MemDisk
+  pub made : AreMadeAsListed front old before
+  pub fails : TriesAsListed before new (Cut (Journal failing) 0) 0 true
+
+-- For each absent journal one operation is tried, in ascending order, up to the first that fails.
+abbrev pub MakesAsListed : (old new : MemDisk) → Result ℕ Failed → Type 0
+MakesAsListed old new (Ok n) = AreMadeAsListed (absent_journals (present (history_of old))) old new
+MakesAsListed old new (Err e) = FailsAsListed (absent_journals (present (history_of old))) old new

@@ -14,7 +14,7 @@ impl Disk for MemDisk {
     ghost use Rattle.spe_model.specs.Faults.{HasCause};
     ghost use Rattle.spe_disk.specs.Told.{Finds, Measures, Reads, Writes, Cuts, MakesJournals};
     ghost use Rattle.spe_disk.specs.Held.{room_taken};
-    ghost use Rattle.spe_disk.specs.Memory.{history_of, is_attached, read_fault_count, op_fault_count, read_count, free_room, ReadsAsListed, OperatesAsListed, IsSameDisk};
+    ghost use Rattle.spe_disk.specs.Memory.{history_of, is_attached, read_fault_count, op_fault_count, read_count, free_room, ReadsAsListed, OperatesAsListed, MakesAsListed, IsSameDisk};
 
     ghost told = { λ d. Some (history_of d) };
 
@@ -122,6 +122,7 @@ impl Disk for MemDisk {
         ensures reads { read_count self.new ≡ read_count self.old }
         ensures room { free_room self.new ≡ free_room self.old }
         ensures disk { IsSameDisk self.old self.new }
+        ensures listed { MakesAsListed self.old self.new result }
     {
         let mut made = 0;
         for number in 0..16 {
@@ -141,7 +142,7 @@ impl MemDisk {
     ghost use Rattle.spe_model.specs.Trace.{present};
     ghost use Rattle.spe_model.specs.Faults.{HasCause};
     ghost use Rattle.spe_disk.specs.Told.{absent_among, makings};
-    ghost use Rattle.spe_disk.specs.Memory.{first_files, trace_of, history_of, is_attached, read_fault_count, op_fault_count, read_count, free_room, IsSameDisk};
+    ghost use Rattle.spe_disk.specs.Memory.{first_files, trace_of, history_of, is_attached, read_fault_count, op_fault_count, read_count, free_room, IsSameDisk, AreMadeAsListed, FailsAsListed};
 
     // Makes the journal of a number, where it is absent, and answers how many that were.
     fn make_absent(&mut self, number: u8) -> Result<u8, Failed>
@@ -159,6 +160,8 @@ impl MemDisk {
         ensures reads { read_count self.new ≡ read_count self.old }
         ensures room { free_room self.new ≡ free_room self.old }
         ensures disk { IsSameDisk self.old self.new }
+        ensures listed { OnOk result (AreMadeAsListed (absent_among (present (history_of self.old)) (number ∷ [])) self.old self.new) }
+        ensures failing { OnErr result (FailsAsListed (absent_among (present (history_of self.old)) (number ∷ [])) self.old self.new) }
     {
         let journal = FileNo::Journal(number);
         if self.file(journal).is_some() {

@@ -14,7 +14,7 @@ use std::alloc::{AllocError, Global};
 pub struct Faults {
     /// The calls of `attach`, `length` and `read_at`, counted together from 1, that fail.
     pub reads: Numbers,
-    /// The operations, counted from 1 as they are tried, that fail.
+    /// Which operations fail: the first that is tried has number 1, and one that fails counts too.
     pub ops: Numbers,
     /// Whether a failing operation is made all the same.
     pub made: bool,

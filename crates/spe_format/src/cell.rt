@@ -5,10 +5,9 @@ ghost use Rattle.std.specs.Option.{option_map};
 ghost use Rattle.spe_model.specs.Cell.{number_at, long_at, left_at, payload_at, key_at, bytes_at, chain_at, cell_at};
 ghost use Rattle.spe_format.specs.View.{cell_seen};
 
-use crate::bytes::u32_of;
 use crate::kind::{has_payload, is_leaf, is_table, local_size};
 use crate::varint::read_varint;
-use spe_model::Kind;
+use spe_model::{Kind, u32_of};
 
 /// A cell that borrows its page. Parts that its kind has not are 0 or empty.
 #[derive(Clone, Copy, Debug)]

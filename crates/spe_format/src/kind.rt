@@ -4,8 +4,7 @@ ghost use Rattle.std.specs.Prelude.{◌≡◌, ◌≤◌, ◌+◌, length, IsTru
 ghost use Rattle.spe_model.specs.Page.{array_start, right_at};
 ghost use Rattle.spe_model.specs.Kind.{kind_of, is_leaf, is_table, has_payload, local_of};
 
-use crate::bytes::u32_of;
-use spe_model::Kind;
+use spe_model::{Kind, u32_of};
 
 #[tactic(auto, unfolding(spe_model::specs::Kind::kind_of))]
 pub fn kind_named(byte: u8) -> Option<Kind>

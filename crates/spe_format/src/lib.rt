@@ -4,7 +4,6 @@
 //! fault that holds there; want of memory alone is free.
 #![tactic(auto)]
 
-mod bytes;
 mod cell;
 mod kind;
 mod layout;

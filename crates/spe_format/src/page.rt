@@ -6,12 +6,11 @@ ghost use Rattle.std.specs.Option.{option_map};
 ghost use Rattle.spe_model.specs.Page.{ascends, is_within, numbers, placed_at, placed_all, page_at};
 ghost use Rattle.spe_format.specs.Answers.{FindsCells, Gives};
 
-use crate::bytes::u16_of;
 use crate::cell::cell_of;
 use crate::kind::{array_start_of, is_table, kind_named, right_of};
 use crate::layout::check_layout;
 use byteorder::{BigEndian, ByteOrder};
-use spe_model::{Bytes, Cell, Cells, Kind, PageCells, PageFault};
+use spe_model::{Bytes, Cell, Cells, Kind, PageCells, PageFault, u16_of};
 use std::alloc::{AllocError, Global};
 
 // The keys ascend strictly.

@@ -6,10 +6,9 @@ ghost use Rattle.spe_model.specs.Page.{page_at};
 ghost use Rattle.spe_model.specs.declared.page.PageCells.{PageCells};
 ghost use Rattle.spe_format.specs.View.{cell_from, cell_seen, shown_at, shown_of};
 
-use crate::bytes::u16_of;
 use crate::cell::{Parts, cell_of};
 use crate::kind::{array_start_of, kind_named, right_of};
-use spe_model::{Kind, PageFault};
+use spe_model::{Kind, PageFault, u16_of};
 use std::marker::Model;
 
 /// A b-tree page that lends its cells one by one. Nothing is copied, and no cell is read before it

@@ -5,7 +5,8 @@ ghost use Rattle.spe_model.specs.Journal.{head_bytes, has_head, head_page_size, 
 ghost use Rattle.spe_journal.specs.Kind.{kind_of, saved_under};
 ghost use Rattle.spe_journal.specs.Saved.{saved_in};
 
-use crate::bytes::{put_u32, u32_of};
+use crate::bytes::put_u32;
+use spe_model::u32_of;
 
 /// The first bytes of a journal.
 const MAGIC: &[u8; 8] = &[0xd9, 0xd5, 0x05, 0xf9, 0x20, 0xa1, 0x63, 0xd7];

@@ -9,6 +9,6 @@ mod head;
 mod record;
 mod text;
 
-pub use head::{JournalKind, journal_kind, put_head};
+pub use head::{HEAD_BYTES, JournalKind, journal_kind, put_head};
 pub use record::{SavedPage, checksum, put_record, record_at};
 pub use text::{JournalText, Record, Records};

@@ -4,7 +4,8 @@ ghost use Rattle.std.specs.Prelude.{◌≡◌, ◌≢◌, ◌+◌, ◌≤◌, �
 ghost use Rattle.spe_model.specs.Journal.{Saved, checksum_of, record_bytes, saved_of, is_right};
 ghost use Rattle.spe_journal.specs.Saved.{SavesFirst, SavesNone, saved_in};
 
-use crate::bytes::{put_u32, u32_of};
+use crate::bytes::put_u32;
+use spe_model::u32_of;
 
 /// How far apart the bytes are that a checksum counts.
 const STRIDE: usize = 200;

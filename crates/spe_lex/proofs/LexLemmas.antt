@@ -3,10 +3,10 @@ use Rattle.std.proofs.Common.{◌≡◌, ℕ, zero, suc, ◌+◌, ◌-◌, ◌<�
 use Rattle.spe_model.specs.declared.token.TokenKind.{TokenKind}
 use Rattle.spe_model.specs.declared.token.Token.{Token}
 use Rattle.spe_model.specs.declared.token.SqlFault.{SqlFault}
-use Rattle.spe_model.specs.declared.token.SqlKind.TheVariants as faults
 use Rattle.spe_model.specs.Token.{Lexeme, Piece, piece_of, map_ok, behind, lexemes_from, lexemes_of, token_of, AreSpans}
 use Rattle.spe_lex.specs.Piece.{piece_at}
 use Rattle.spe_lex.specs.Lexed.{standing}
+use Rattle.spe_lex.specs.Front.{Front, led_by, front_behind, front_from, front_of, whole}
 use Rattle.spe_lex.proofs.PieceLemmas.{IsPiece, Holds, pieces}
 
 abbrev pub Lexing : Type 0
@@ -16,18 +16,13 @@ abbrev pub all_read : List Lexeme → Lexing
 all_read xs = Ok xs
 
 -- what is read, behind what was read before
-abbrev pub ahead : List Lexeme → Lexing → Lexing
-ahead xs reading = map_ok (λ ys. xs ++ ys) reading
+abbrev pub ahead : List Lexeme → Front → Front
+ahead xs front = (xs ++ front.0, front.1)
 
-pub ahead_nothing : (reading : Lexing) → ahead [] reading ≡ reading
-ahead_nothing (Ok ys) = refl
-ahead_nothing (Err fault) = refl
+ahead_more : (xs ys : List Lexeme) (front : Front) → ahead (xs ++ ys) front ≡ ahead xs (ahead ys front)
+ahead_more xs ys front = ap (λ (zs : List Lexeme). (zs, front.1)) (append_assoc xs ys front.0)
 
-ahead_more : (xs ys : List Lexeme) (reading : Lexing) → ahead (xs ++ ys) reading ≡ ahead xs (ahead ys reading)
-ahead_more xs ys (Ok zs) = ap all_read (append_assoc xs ys zs)
-ahead_more xs ys (Err fault) = refl
-
-passed_all : (n at : ℕ) (text : List ℕ) → lexemes_from at n text ≡ lexemes_from (at + n) 0 (drop n text)
+passed_all : (n at : ℕ) (text : List ℕ) → front_from at n text ≡ front_from (at + n) 0 (drop n text)
 passed_all zero at text = let e : at + 0 ≡ at = omega arith in rw e refl
 passed_all (suc n) at [] = refl
 passed_all (suc n) at (b ∷ rest) =
@@ -40,7 +35,7 @@ drop_by b rest n m e = rw e refl
 drop_one : (b : ℕ) (rest : List ℕ) (n : ℕ) → 0 < n → drop n (b ∷ rest) ≡ drop (n - 1) rest
 drop_one b rest n some = drop_by b rest n (n - 1) (omega arith)
 
-next_from : (at n b : ℕ) (rest : List ℕ) → 0 < n → lexemes_from (at + 1) (n - 1) rest ≡ lexemes_from (at + n) 0 (drop n (b ∷ rest))
+next_from : (at n b : ℕ) (rest : List ℕ) → 0 < n → front_from (at + 1) (n - 1) rest ≡ front_from (at + n) 0 (drop n (b ∷ rest))
 next_from at n b rest some =
     let e : at + 1 + (n - 1) ≡ at + n = omega arith in
     passed_all (n - 1) (at + 1) rest ∙ rw (e, drop_one b rest n some) refl
@@ -49,39 +44,64 @@ abbrev pub a_piece : Option TokenKind → ℕ → Option Piece
 a_piece kind n = Some (kind, n)
 
 turn : (at : ℕ) (left : List ℕ) (kind : Option TokenKind) (n : ℕ) → piece_at left ≡ a_piece kind n → 0 < n
-    → lexemes_from at 0 left ≡ ahead (standing kind at (take n left)) (lexemes_from (at + n) 0 (drop n left))
+    → front_from at 0 left ≡ ahead (standing kind at (take n left)) (front_from (at + n) 0 (drop n left))
 turn at [] kind n e some = absurd cc
 turn at (b ∷ rest) None n e some =
-    ap (λ (o : Option Piece). behind at (b ∷ rest) o (λ m. lexemes_from (at + 1) m rest)) e
-    ∙ (next_from at n b rest some ∙ sym (ahead_nothing (lexemes_from (at + n) 0 (drop n (b ∷ rest)))))
+    ap (λ (o : Option Piece). front_behind at (b ∷ rest) o (λ m. front_from (at + 1) m rest)) e ∙ next_from at n b rest some
 turn at (b ∷ rest) (Some kind) n e some =
-    ap (λ (o : Option Piece). behind at (b ∷ rest) o (λ m. lexemes_from (at + 1) m rest)) e
-    ∙ ap (map_ok (λ xs. record { kind = kind; at = at; text = take n (b ∷ rest) } ∷ xs)) (next_from at n b rest some)
+    ap (λ (o : Option Piece). front_behind at (b ∷ rest) o (λ m. front_from (at + 1) m rest)) e
+    ∙ ap (led_by (record { kind = kind; at = at; text = take n (b ∷ rest) })) (next_from at n b rest some)
 
 -- a turn of the loop
-pub loop_turn : (found : List Lexeme) (at : ℕ) (left : List ℕ) (kind : Option TokenKind) (n : ℕ) (all : Lexing) → piece_at left ≡ a_piece kind n → 0 < n
-    → ahead found (lexemes_from at 0 left) ≡ all
-    → ahead (found ++ standing kind at (take n left)) (lexemes_from (at + n) 0 (drop n left)) ≡ all
+pub loop_turn : (found : List Lexeme) (at : ℕ) (left : List ℕ) (kind : Option TokenKind) (n : ℕ) (all : Front) → piece_at left ≡ a_piece kind n → 0 < n
+    → ahead found (front_from at 0 left) ≡ all
+    → ahead (found ++ standing kind at (take n left)) (front_from (at + n) 0 (drop n left)) ≡ all
 loop_turn found at left kind n all e some same =
-    ahead_more found (standing kind at (take n left)) (lexemes_from (at + n) 0 (drop n left)) ∙ (ap (ahead found) (sym (turn at left kind n e some)) ∙ same)
+    ahead_more found (standing kind at (take n left)) (front_from (at + n) 0 (drop n left)) ∙ (ap (ahead found) (sym (turn at left kind n e some)) ∙ same)
+
+abbrev pub no_fault : List Lexeme → Front
+no_fault xs = (xs, None)
+
+abbrev pub fault_at : List Lexeme → ℕ → Front
+fault_at xs at = (xs, Some at)
 
 -- its end
-pub loop_end : (found : List Lexeme) (at : ℕ) (left : List ℕ) (all : Lexing) → length left ≡ 0 → ahead found (lexemes_from at 0 left) ≡ all → all ≡ all_read found
-loop_end found at [] all e same = sym same ∙ ap all_read (append-nil found)
+pub loop_end : (found : List Lexeme) (at : ℕ) (left : List ℕ) (all : Front) → length left ≡ 0 → ahead found (front_from at 0 left) ≡ all → no_fault found ≡ all
+loop_end found at [] all e same = ap no_fault (sym (append-nil found)) ∙ same
 loop_end found at (b ∷ rest) all e same = absurd (omega arith)
 
 abbrev no_piece : Option Piece
 no_piece = None
 
-abbrev pub no_token : ℕ → SqlFault
-no_token at = record { at = at; kind = faults.Token }
-
 -- its stop
-pub loop_stop : (found : List Lexeme) (at : ℕ) (left : List ℕ) (all : Lexing) → 0 < length left → piece_at left ≡ no_piece → ahead found (lexemes_from at 0 left) ≡ all
-    → all ≡ Err (no_token at)
+pub loop_stop : (found : List Lexeme) (at : ℕ) (left : List ℕ) (all : Front) → 0 < length left → piece_at left ≡ no_piece → ahead found (front_from at 0 left) ≡ all
+    → fault_at found at ≡ all
 loop_stop found at [] all some e same = absurd (omega arith)
 loop_stop found at (b ∷ rest) all some e same =
-    sym same ∙ ap (ahead found) (ap (λ (o : Option Piece). behind at (b ∷ rest) o (λ m. lexemes_from (at + 1) m rest)) e)
+    ap (λ (xs : List Lexeme). fault_at xs at) (sym (append-nil found))
+    ∙ (sym (ap (ahead found) (ap (λ (o : Option Piece). front_behind at (b ∷ rest) o (λ m. front_from (at + 1) m rest)) e)) ∙ same)
+
+whole_led : (x : Lexeme) (front : Front) → map_ok (λ xs. x ∷ xs) (whole front) ≡ whole (led_by x front)
+whole_led x (xs, None) = refl
+whole_led x (xs, Some at) = refl
+
+whole_behind : (at : ℕ) (text : List ℕ) (o : Option Piece) (others : ℕ → Lexing) (fronts : ℕ → Front) → ((n : ℕ) → others n ≡ whole (fronts n))
+    → behind at text o others ≡ whole (front_behind at text o fronts)
+whole_behind at text None others fronts same = refl
+whole_behind at text (Some (None, n)) others fronts same = same (n - 1)
+whole_behind at text (Some (Some kind, n)) others fronts same =
+    ap (map_ok (λ xs. record { kind = kind; at = at; text = take n text } ∷ xs)) (same (n - 1))
+    ∙ whole_led (record { kind = kind; at = at; text = take n text }) (fronts (n - 1))
+
+whole_from : (text : List ℕ) (at passed : ℕ) → lexemes_from at passed text ≡ whole (front_from at passed text)
+whole_from [] at passed = refl
+whole_from (b ∷ rest) at zero =
+    whole_behind at (b ∷ rest) (piece_of b rest) (λ n. lexemes_from (at + 1) n rest) (λ n. front_from (at + 1) n rest) (λ n. whole_from rest (at + 1) n)
+whole_from (b ∷ rest) at (suc passed) = whole_from rest (at + 1) passed
+
+-- the tokens of a text are those up to its end
+pub lexemes_of-front : (text : List ℕ) → lexemes_of text ≡ whole (front_of text)
+lexemes_of-front text = whole_from text 0 0
 
 -- what is known of the piece at the front
 pub front_piece : (left : List ℕ) (kind : Option TokenKind) (n : ℕ) → piece_at left ≡ a_piece kind n → IsPiece left kind n

@@ -13,7 +13,7 @@ use Rattle.std.proofs.lemmas.Str.{IsUtf8-take, IsUtf8-drop, IsCharBoundary-end, 
 use Rattle.spe_model.specs.declared.token.TokenKind.{TokenKind}
 use Rattle.spe_model.specs.declared.token.TokenKind.TheVariants.{Word, QuotedName, Str, Blob, Number, Fraction, Sign}
 use Rattle.spe_model.specs.Token.{begins_with, begins_word, continues_word, continues_fraction, begins_fraction, is_not_line_feed, is_sign, is_quote, through_comment, before_quote, before_bracket, before_blob_end, further, gap, token, quoted, quoted_name, blob, number, sign, quotation, piece_of, inner, unquoted, undoubled, Piece}
-use Rattle.spe_lex.specs.Lexed.{AreHexPairs, IsSound}
+use Rattle.spe_lex.specs.Lexed.{AreHexPairs, AreDigits, IsSound}
 use Rattle.spe_lex.proofs.QuoteLemmas.{not_quote, two_quotes, lone_quote}
 use Rattle.spe_lex.proofs.UnquotedLemmas.{and_both, IsUtf8-undoubled}
 
@@ -214,12 +214,13 @@ unquoted_plain b rest n e some = let m : n ≡ suc (n - 1) = omega arith in of_s
     of_suc n m f = rw f (neither (b == byte "[") (is_quote b) _ _ _ (not_bracket b e) e)
 
 -- a token that has no quotes
-plain_piece : (kind : TokenKind) (b : ℕ) (rest : List ℕ) (n : ℕ) → (kind ≡ Blob → ⊥) → is_quote b ≡ false → Ends (b ∷ rest) n → Holds b rest (token kind n)
-plain_piece kind b rest n other e ends = record {
+plain_piece : (kind : TokenKind) (b : ℕ) (rest : List ℕ) (n : ℕ) → (kind ≡ Blob → ⊥) → (kind ≡ Number → AreDigits (take n (b ∷ rest))) → is_quote b ≡ false → Ends (b ∷ rest) n → Holds b rest (token kind n)
+plain_piece kind b rest n other decimal e ends = record {
   ends = ends;
   sound = λ u. record {
     meant = rw (unquoted_plain b rest n e ends.some) (IsUtf8-take (b ∷ rest) n u (boundary (b ∷ rest) n ends u));
     digits = λ f. absurd (other f);
+    decimal = decimal;
   };
 }
 
@@ -254,8 +255,8 @@ unquoted_text b rest n some e u = let m : n ≡ suc (n - 1) = omega arith in of_
     of_suc n m f u = rw f (unquoted_either (b == byte "[") (is_quote b) b (b ∷ take m rest) e (quote_small b e) (rw f at u))
 
 -- a token between two quotes
-quoted_piece : (kind : TokenKind) (b : ℕ) (rest : List ℕ) (m q : ℕ) → (kind ≡ Blob → ⊥) → is_quote b ≡ true → q < 128 → StandsAt q rest m → Holds b rest (token kind (m + 2))
-quoted_piece kind b rest m q other e small at =
+quoted_piece : (kind : TokenKind) (b : ℕ) (rest : List ℕ) (m q : ℕ) → (kind ≡ Blob → ⊥) → (kind ≡ Number → ⊥) → is_quote b ≡ true → q < 128 → StandsAt q rest m → Holds b rest (token kind (m + 2))
+quoted_piece kind b rest m q other plain e small at =
     let last : m + 2 - 1 ≡ 1 + m = omega arith in
     let close : get_or rest m 0 < 128 = omega (arith, at.1) in record {
       ends = record { some = omega arith; within = omega (arith, at.0); how = inr (inr (rw (last, tail_at b rest m) close)) };
@@ -264,6 +265,7 @@ quoted_piece kind b rest m q other e small at =
             unquoted_text b rest (m + 2) (omega arith) e
             (rw (inner_is b rest m at.0) (IsUtf8-take rest m (rest_text b rest (quote_small b e) u) (IsCharBoundary-before_ascii rest m at.0 close)));
         digits = λ f. absurd (other f);
+        decimal = λ f. absurd (plain f);
       };
     }
 
@@ -281,6 +283,7 @@ blob_piece b c r m e at pairs =
       sound = λ u. record {
         meant = rw (unquoted_plain b (c ∷ r) (m + 3) e ends.some) (IsUtf8-take (b ∷ c ∷ r) (m + 3) u (boundary (b ∷ c ∷ r) (m + 3) ends u));
         digits = λ f. rw (more, inner_is c r m at.0) pairs;
+        decimal = λ f. absurd cc;
       };
     }
 
@@ -339,26 +342,32 @@ blob_holds b [] e = absurd (none (and_both _ false e).1)
 blob_holds b (c ∷ r) e = blob_some b c r (before_blob_end r) (letter_plain b (and_both _ (begins_with (byte "'") (c ∷ r)) e).0) (blob_at r)
 
 word_holds : (b : ℕ) (rest : List ℕ) → begins_word b ≡ true → Holds b rest (token Word (1 + prefix_len continues_word rest))
-word_holds b rest e = plain_piece Word b rest (1 + prefix_len continues_word rest) (λ f. cc) (word_plain b e) (run_ends continues_word continues_word_small b rest)
+word_holds b rest e = plain_piece Word b rest (1 + prefix_len continues_word rest) (λ f. cc) (λ f. absurd cc) (word_plain b e) (run_ends continues_word continues_word_small b rest)
+
+digits_run : (b : ℕ) (rest : List ℕ) → is_ascii_digit b ≡ true → AreDigits (take (prefix_len is_ascii_digit (b ∷ rest)) (b ∷ rest))
+digits_run b rest e = record {
+  some = rw (length-prefix_len is_ascii_digit (b ∷ rest)) (omega (arith, run_from is_ascii_digit b rest e));
+  all = run_passes is_ascii_digit (b ∷ rest);
+}
 
 number_holds : (b : ℕ) (rest : List ℕ) → is_ascii_digit b ≡ true → Holds b rest (number (b ∷ rest))
 unfolding number
 number_holds b rest e =
     choose b rest (begins_fraction (drop (prefix_len is_ascii_digit (b ∷ rest)) (b ∷ rest))) (token Fraction (prefix_len continues_fraction (b ∷ rest)))
     (token Number (prefix_len is_ascii_digit (b ∷ rest)))
-    (λ f. plain_piece Fraction b rest _ (λ f. cc) (digit_plain b e)
+    (λ f. plain_piece Fraction b rest _ (λ f. cc) (λ f. absurd cc) (digit_plain b e)
     (subst (Ends (b ∷ rest)) (sym (run_from continues_fraction b rest (digit_continues b e))) (run_ends continues_fraction continues_fraction_small b rest)))
-    (λ f. plain_piece Number b rest _ (λ f. cc) (digit_plain b e)
+    (λ f. plain_piece Number b rest _ (λ f. cc) (λ f. digits_run b rest e) (digit_plain b e)
     (run_behind is_ascii_digit digit_small (b ∷ rest) (omega (arith, run_from is_ascii_digit b rest e))))
 
 quoted_holds : (b : ℕ) (rest : List ℕ) (q : ℕ) (o : Option ℕ) → is_quote b ≡ true → q < 128 → IfSome o (StandsAt q rest) → Holds b rest (quoted Str o)
 quoted_holds b rest q None e small h = tt
-quoted_holds b rest q (Some m) e small h = quoted_piece Str b rest m q (λ f. cc) e small h
+quoted_holds b rest q (Some m) e small h = quoted_piece Str b rest m q (λ f. cc) (λ f. cc) e small h
 
 quoted_name_holds : (b : ℕ) (rest : List ℕ) (q : ℕ) (o : Option ℕ) → is_quote b ≡ true → q < 128 → IfSome o (StandsAt q rest) → Holds b rest (quoted_name o)
 quoted_name_holds b rest q None e small h = tt
 quoted_name_holds b rest q (Some m) e small h =
-    choose b rest (m == 0) None (token QuotedName (m + 2)) (λ f. tt) (λ f. quoted_piece QuotedName b rest m q (λ f. cc) e small h)
+    choose b rest (m == 0) None (token QuotedName (m + 2)) (λ f. tt) (λ f. quoted_piece QuotedName b rest m q (λ f. cc) (λ f. cc) e small h)
 
 quotation_holds : (b : ℕ) (rest : List ℕ) → is_quote b ≡ true → Holds b rest (quotation b rest)
 unfolding quotation
@@ -373,13 +382,13 @@ compared t b [] e f = absurd (none (and_both t false f).1)
   where
     none : false ≡ true → ⊥
     none g = cc
-compared t b (c ∷ r) e f = plain_piece Sign b (c ∷ r) 2 (λ g. cc) e (two_ends b c r (equals_small c (and_both t (c == byte "=") f).1))
+compared t b (c ∷ r) e f = plain_piece Sign b (c ∷ r) 2 (λ g. cc) (λ g. absurd cc) e (two_ends b c r (equals_small c (and_both t (c == byte "=") f).1))
 
 sign_holds : (b : ℕ) (rest : List ℕ) → is_quote b ≡ false → Holds b rest (sign b rest)
 unfolding sign
 sign_holds b rest e =
     choose b rest (((b == byte "<") || (b == byte ">")) && begins_with (byte "=") rest) (token Sign 2) _ (compared _ b rest e)
-    (λ f. choose b rest (is_sign b) (token Sign 1) None (λ g. plain_piece Sign b rest 1 (λ h. cc) e (one_ends b rest (sign_small b g))) (λ g. tt))
+    (λ f. choose b rest (is_sign b) (token Sign 1) None (λ g. plain_piece Sign b rest 1 (λ h. cc) (λ h. absurd cc) e (one_ends b rest (sign_small b g))) (λ g. tt))
 
 pub pieces : (b : ℕ) (rest : List ℕ) → Holds b rest (piece_of b rest)
 unfolding piece_of

@@ -2,8 +2,8 @@
 
 ghost use Rattle.std.specs.Prelude.{◌≡◌, IfOk};
 ghost use Rattle.spe_model.specs.Token.{token_of, unquoted, blob_bytes};
-ghost use Rattle.spe_model.specs.declared.token.TokenKind.TheVariants.{Blob};
-ghost use Rattle.spe_lex.specs.Lexed.{IsSound};
+ghost use Rattle.spe_model.specs.declared.token.TokenKind.TheVariants.{Blob, Number};
+ghost use Rattle.spe_lex.specs.Lexed.{AreDigits, IsSound};
 
 use crate::quotes::{hex_bytes, unquoted_text};
 use spe_model::{Bytes, Text, Token, TokenKind};
@@ -56,6 +56,15 @@ impl<'a> Lexeme<'a> {
     /// Its text, with the quotes that it has.
     pub fn text(&self) -> &'a str
         ensures { result.now ≡ self.now.text }
+    {
+        self.text
+    }
+
+    /// The digits of a number.
+    pub fn digits(&self) -> &'a str
+        requires { self.now.kind ≡ Number }
+        ensures text { result.now ≡ self.now.text }
+        ensures decimal { AreDigits result.now }
     {
         self.text
     }

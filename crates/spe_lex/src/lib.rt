@@ -10,5 +10,5 @@ mod quotes;
 mod reading;
 
 pub use lexeme::Lexeme;
-pub use reading::{lex, lexemes};
+pub use reading::{Front, lex, lexemes, read_front};
 pub use spe_model::{SqlFault, SqlKind, Token, TokenKind, Tokens};

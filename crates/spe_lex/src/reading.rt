@@ -2,6 +2,7 @@
 
 ghost use Rattle.std.specs.Prelude.{◌≡◌, ◌++◌, IfOk, IfSome, OnOk, map, length};
 ghost use Rattle.spe_model.specs.Token.{token_of, tokens_of, lexemes_of, AreSpans};
+ghost use Rattle.spe_lex.specs.Front.{front_of};
 ghost use Rattle.spe_lex.specs.Lexed.{Gives, IsSound, standing};
 
 use crate::lexeme::Lexeme;
@@ -25,20 +26,27 @@ fn push<'a>(
     Ok(())
 }
 
-/// The tokens of a text with their bytes, in the order of their places.
-///
-/// The fault is at the first byte at which no token, blank or comment stands.
-pub fn lexemes(alloc: Global, text: &str) -> Result<Vec<Lexeme<'_>>, SqlFault>
-    ensures { Gives (λ v. v.items) result (lexemes_of text.now) }
+/// The tokens of a text before its first fault.
+#[derive(Debug, Drop)]
+pub struct Front<'a> {
+    /// The tokens with their bytes, in the order of their places.
+    pub lexemes: Vec<Lexeme<'a>>,
+    /// The place of the first byte at which no token, blank or comment stands, counted from 0.
+    pub fault: Option<u64>,
+}
+
+/// The tokens of a text up to its first fault, and the place of that fault, where there is one.
+pub fn read_front(alloc: Global, text: &str) -> Result<Front<'_>, AllocError>
+    ensures { IfOk result (λ f. (f.lexemes.items, f.fault) ≡ front_of text.now) }
 {
     let mut found = Vec::new(alloc);
     let mut left = text;
     let mut at = 0;
     while !left.is_empty() {
         let Some((kind, len)) = piece(left.as_bytes()) else {
-            return Err(SqlFault {
-                at,
-                kind: SqlKind::Token,
+            return Ok(Front {
+                lexemes: found,
+                fault: Some(at),
             });
         };
         let (front, rest) = left.split_at(len);
@@ -46,7 +54,28 @@ pub fn lexemes(alloc: Global, text: &str) -> Result<Vec<Lexeme<'_>>, SqlFault>
         at += len as u64;
         left = rest;
     }
-    Ok(found)
+    Ok(Front {
+        lexemes: found,
+        fault: None,
+    })
+}
+
+/// The tokens of a text with their bytes, in the order of their places.
+///
+/// The fault is at the first byte at which no token, blank or comment stands.
+pub fn lexemes(alloc: Global, text: &str) -> Result<Vec<Lexeme<'_>>, SqlFault>
+    ensures { Gives (λ v. v.items) result (lexemes_of text.now) }
+{
+    match read_front(alloc, text) {
+        Ok(front) => match front.fault {
+            Some(at) => Err(SqlFault {
+                at,
+                kind: SqlKind::Token,
+            }),
+            None => Ok(front.lexemes),
+        },
+        Err(error) => Err(SqlFault::from(error)),
+    }
 }
 
 fn tokens(alloc: Global, lexemes: &[Lexeme<'_>]) -> Result<Vec<Token>, AllocError>

@@ -44,12 +44,6 @@ link_after usable pages (suc count) left page =
 abbrev pub IsAmiss : ℕ → ℕ → Type 0
 IsAmiss left page = ((0 < left) × (page ≡ 0)) ⊎ ((left ≡ 0) × (page ≢ 0))
 
--- a page of the chain ends it early, or names a page after its last: `at` has the number that is amiss
-pub record BreaksAt (usable : ℕ) (pages : Paging) (left page at : ℕ) : Type 0 where
-  pub count : ℕ
-  pub place : (link_after usable pages count left page).1 ≡ at
-  pub amiss : IsAmiss ((link_after usable pages count left page).0 - link_room usable) (next_page pages at)
-
 -- a page on which some of the bytes stand
 pub record IsLink (usable : ℕ) (pages : Paging) (left page at : ℕ) : Type 0 where
   pub count : ℕ

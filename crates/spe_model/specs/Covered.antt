@@ -1,6 +1,6 @@
 -- Operations that a stop may tear anywhere: whatever it leaves of the last of them, the recovered pages are as before.
 -- The discipline is this project's own.
-use Rattle.std.specs.Prelude.{◌≡◌, ℕ, ◌+◌, ◌-◌, ◌*◌, ◌<◌, ◌≤◌, ◌⊎◌, ◌==◌, Bool, true, is_some, List, [], ◌∷◌, length, Result, Ok, if◌then◌else◌}
+use Rattle.std.specs.Prelude.{◌≡◌, ℕ, ◌+◌, ◌-◌, ◌*◌, ◌<◌, ◌≤◌, ◌⊎◌, ◌==◌, Bool, true, is_some, List, [], ◌∷◌, length, Ok, if◌then◌else◌}
 use Rattle.std.specs.List.{find}
 use Rattle.spe_model.specs.declared.file.FileNo.TheVariants.{Database, Journal}
 use Rattle.spe_model.specs.Content.{Content}

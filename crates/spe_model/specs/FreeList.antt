@@ -1,6 +1,6 @@
 -- Free pages. In stock form ("The Freelist" in SQLite's Database File Format) a chain of trunks names them; in server
 -- form, which is this project's own, a node page names up to sixteen first trunks.
-use Rattle.std.specs.Prelude.{◌≡◌, ℕ, zero, suc, ◌+◌, ◌-◌, ◌*◌, ◌/◌, ◌<◌, ◌≤◌, Bool, not, ◌&&◌, ◌==◌, nat_le, List, [], ◌∷◌, ◌++◌, length, map, if◌then◌else◌}
+use Rattle.std.specs.Prelude.{◌≡◌, ℕ, zero, suc, ◌+◌, ◌-◌, ◌*◌, ◌/◌, ◌<◌, ◌≤◌, Bool, not, ◌&&◌, ◌==◌, nat_le, List, [], ◌∷◌, ◌++◌, map}
 use Rattle.spe_model.specs.Big.{u32_at}
 use Rattle.spe_model.specs.Journal.{numbers_from}
 use Rattle.spe_model.specs.Paging.{Paging}

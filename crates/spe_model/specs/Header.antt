@@ -63,6 +63,14 @@ abbrev pub unless : {T E : Type 0} → Option E → T → Result T E
 unless None x = Ok x
 unless (Some e) x = Err e
 
+-- the faults that keep the page size from being known
+abbrev pub front_faults : List HeaderFault
+front_faults = Short ∷ NotADatabase ∷ Wal ∷ BadPageSize ∷ []
+
+-- the lowest of these that the bytes have
+abbrev pub front_fault_of : List ℕ → Option HeaderFault
+front_fault_of bytes = find (has_fault bytes) front_faults
+
 -- the header, or the lowest fault
 abbrev pub header_of : List ℕ → Result Header HeaderFault
 header_of bytes = unless (find (has_fault bytes) faults) (fields bytes)
@@ -70,6 +78,10 @@ header_of bytes = unless (find (has_fault bytes) faults) (fields bytes)
 -- whether the size in pages counts
 abbrev pub is_size_valid : Header → Bool
 is_size_valid h = not (h.pages == 0) && (h.change == h.valid_for)
+
+-- in server form, the page that names the free lists: offset 32 names it, and offset 36 is 0
+abbrev pub node_of : Header → Option ℕ
+node_of h = if not (h.first_free == 0) && (h.free_count == 0) then Some h.first_free else None
 
 -- the number of pages of a file of so many bytes
 abbrev pub page_count_of : Header → ℕ → ℕ

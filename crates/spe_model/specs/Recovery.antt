@@ -4,12 +4,11 @@ use Rattle.std.specs.List.{find, list_any, list_all, flat_map}
 use Rattle.std.specs.Option.{option_map_or}
 use Rattle.spe_model.specs.declared.header.Header.{Header}
 use Rattle.spe_model.specs.declared.header.HeaderFault.{HeaderFault}
-use Rattle.spe_model.specs.declared.header.HeaderFault.TheVariants.{Short, NotADatabase, Wal, BadPageSize}
 use Rattle.spe_model.specs.declared.recovery.RecoverFault.{RecoverFault}
 use Rattle.spe_model.specs.declared.recovery.RecoverFault.TheVariants as refusals
 use Rattle.spe_model.specs.declared.file.FileNo.TheVariants.{Database, Journal}
 use Rattle.spe_model.specs.Content.{Content, bytes_of}
-use Rattle.spe_model.specs.Header.{has_fault, header_of, fields, page_size_at, page_count_of}
+use Rattle.spe_model.specs.Header.{front_fault_of, header_of, fields, page_size_at, page_count_of}
 use Rattle.spe_model.specs.Journal.{Saved, has_head, head_page_size, hot_records, numbers_from}
 
 -- the journals
@@ -52,7 +51,7 @@ image_of content p = with_front content p (saved_or (file_page content p) (find 
 
 -- the header faults that keep the page size from being known, of the file's page 1
 abbrev pub front_fault : Content → Option HeaderFault
-front_fault content = find (has_fault (take 100 (bytes_of content Database))) (Short ∷ NotADatabase ∷ Wal ∷ BadPageSize ∷ [])
+front_fault content = front_fault_of (take 100 (bytes_of content Database))
 
 abbrev pub has_other_size : Content → ℕ → Bool
 has_other_size content id = has_head (journal_of content id) && not (head_page_size (journal_of content id) == file_page_size content)

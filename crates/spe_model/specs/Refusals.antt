@@ -31,7 +31,7 @@ has_unknown_name table s = list_any (λ name. is_nothing (meant_by table name)) 
 unfoldable pub has_column_condition : TableDef → Statement → Bool
 has_column_condition table s = list_any (λ (c : Cond). is_column (meant_by table c.name)) (conds_of s)
 
--- values and columns differ in number, or a column or the rowid is given two
+-- there are not as many values as places for them, or one place gets two
 unfoldable pub is_miscounted : TableDef → Statement → Bool
 is_miscounted table s = not (length (targets table s) == length (given_values s)) || has_twice (targets table s)
 

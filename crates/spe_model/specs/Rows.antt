@@ -35,9 +35,9 @@ shown r named.Rowid = Int r.0
 shown r (named.Column place) = unwrap_or (slice_get r.1 place) Null
 shown r named.Nothing = Null
 
--- a row with all its values, or with those that are named
-abbrev pub selected : TableDef → Bool → List (List ℕ) → Row → Row
-selected table all columns r = if all then r else (r.0, map (shown r) (map (meant_by table) columns))
+-- all the values of a row, or those that are named
+abbrev pub selected : TableDef → Bool → List (List ℕ) → Row → List Value
+selected table all columns r = if all then r.1 else map (shown r) (map (meant_by table) columns)
 
 -- rows ascend, so the last has the largest rowid
 abbrev pub largest : List Row → Option ℤ

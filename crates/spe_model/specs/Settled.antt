@@ -5,7 +5,7 @@ use Rattle.spe_model.specs.declared.header.Header.{Header}
 use Rattle.spe_model.specs.declared.recovery.Recovered.{Recovered}
 use Rattle.spe_model.specs.Content.{Content, bytes_of}
 use Rattle.spe_model.specs.Covered.{Covered}
-use Rattle.spe_model.specs.Header.{fields, header_of, is_page_size}
+use Rattle.spe_model.specs.Header.{fields, header_of, is_page_size, node_of}
 use Rattle.spe_model.specs.Paging.{Paging}
 use Rattle.spe_model.specs.Recovery.{file_page, file_page_size, journal_of, pages_to, recovered}
 use Rattle.spe_model.specs.Trace.{Operation, History, IsCut, after, present}
@@ -35,6 +35,7 @@ pub record IsFound (found : Recovered) (content : Content) (pages : List (List �
   pub legal : header_of (take 100 (page_in pages 1)) ≡ Ok (header_in pages)
   pub page_size : (header_in pages).page_size ≡ found.page_size
   pub reserved : (header_in pages).reserved ≡ found.reserved
+  pub node : node_of (header_in pages) ≡ found.node
   pub held : map (file_page content) (pages_to (length pages)) ≡ pages
   pub whole : length pages * file_page_size content ≤ length (bytes_of content Database)
   pub quiet : (id : ℕ) → id < 16 → journal_of content id ≡ []

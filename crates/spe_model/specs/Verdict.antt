@@ -1,7 +1,6 @@
 -- Whether the pages of a file are sound: the first rule that is broken, in the order of the walk, or what there is.
-use Rattle.std.specs.Prelude.{ℕ, zero, suc, ℤ, pos, negsuc, ◌+◌, ◌==◌, ◌&&◌, ◌||◌, not, nat_le, Bool, true, false, int_lt, List, [], ◌∷◌, ◌++◌, length, take, map, filter, sum, codes, Option, Some, None, Result, Ok, Err, is_some, if◌then◌else◌}
-use Rattle.std.specs.List.{flat_map, list_any}
-use Rattle.std.specs.Str.{bytes_eq}
+use Rattle.std.specs.Prelude.{ℕ, ℤ, ◌==◌, ◌&&◌, not, nat_le, Bool, false, int_lt, List, [], ◌∷◌, ◌++◌, length, map, filter, sum, Option, Some, None, Result, Ok, Err, is_some, if◌then◌else◌}
+use Rattle.std.specs.List.{flat_map, list_any, take_while}
 use Rattle.spe_model.specs.declared.value.Value.{Value}
 use Rattle.spe_model.specs.declared.table.TableDef.{TableDef}
 use Rattle.spe_model.specs.declared.record.RecordFault.{RecordFault}
@@ -19,7 +18,7 @@ use Rattle.spe_model.specs.Walk.{Mark, Names, Keeps, first_broken, index_marks, 
 abbrev pub LeafRow : Type 0
 LeafRow = ℕ × ℤ × List ℕ
 
-abbrev pub tree_levels : ℕ
+unfoldable pub tree_levels : ℕ
 tree_levels = 20
 
 -- the record has a value, with at most so many fields
@@ -38,9 +37,13 @@ placed_rows usable pages = flat_map (λ (r : LeafRow). with_leaf r.0 (schema_row
 abbrev pub schema_rows : (usable : ℕ) → Paging → List SchemaRow
 schema_rows usable pages = map (λ (r : ℕ × SchemaRow). r.1) (placed_rows usable pages)
 
+-- the rows before the first whose rowid is not below this one
+abbrev pub before : ℤ → List SchemaRow → List SchemaRow
+before rowid rows = take_while (λ (r : SchemaRow). int_lt r.rowid rowid) rows
+
 -- a table before this row has its name
 abbrev pub is_taken : List SchemaRow → SchemaRow → Bool
-is_taken rows row = list_any (λ (r : SchemaRow). int_lt r.rowid row.rowid && is_table_row r && agree r.name row.name) rows
+is_taken rows row = list_any (λ (r : SchemaRow). is_table_row r && agree r.name row.name) (before row.rowid rows)
 
 abbrev pub is_right_row : List SchemaRow → Option SchemaRow → Bool
 is_right_row rows None = false

@@ -1,10 +1,9 @@
 //! The first hundred bytes of a database file.
 
-ghost use Rattle.std.specs.Prelude.{◌≡◌, ◌≢◌, ◌+◌, ◌<◌, ◌≤◌, ◌^◌, length};
-ghost use Rattle.spe_model.specs.Big.{u16_at, u32_at};
+ghost use Rattle.std.specs.Prelude.{◌≡◌, ◌≢◌, length};
 ghost use Rattle.spe_model.specs.Header.{page_count_of};
 
-use byteorder::{BigEndian, ByteOrder};
+use crate::bytes::{u16_of, u32_of};
 
 /// What the header of a database file names.
 ///
@@ -55,27 +54,11 @@ pub enum HeaderFault {
     SchemaFormat = 8,
 }
 
-#[tactic(auto, unfolding(crate::specs::Big::u16_at))]
-fn u16_of(bytes: &[u8], at: usize) -> u16
-    requires { at + 2 ≤ length bytes.now }
-    ensures { result ≡ u16_at bytes.now at }
-{
-    BigEndian::read_u16(&bytes[at..])
-}
-
-#[tactic(auto, unfolding(crate::specs::Big::u32_at))]
-fn u32_of(bytes: &[u8], at: usize) -> u32
-    requires { at + 4 ≤ length bytes.now }
-    ensures { result ≡ u32_at bytes.now at }
-{
-    BigEndian::read_u32(&bytes[at..])
-}
-
 const MAGIC: &[u8; 16] = b"SQLite format 3\0";
 
 impl Header {
-    ghost use Rattle.std.specs.Prelude.{◌≡◌, ◌≤◌, length, IsTrue, IfOk};
-    ghost use Rattle.spe_model.specs.Header.{is_size_valid, IsSized, header_of, is_database, is_wal, is_page_size, page_size_at};
+    ghost use Rattle.std.specs.Prelude.{◌≡◌, ◌≤◌, length, true, IsTrue, IfOk, OnOk};
+    ghost use Rattle.spe_model.specs.Header.{is_size_valid, IsSized, header_of, is_database, is_wal, is_page_size, front_fault_of, node_of, page_size_at, unless};
 
     #[tactic(auto, unfolding(crate::specs::Header::is_database))]
     fn is_database(bytes: &[u8]) -> bool
@@ -120,12 +103,14 @@ impl Header {
         )
     }
 
-    /// Reads the header at the front of a database file, of which 100 bytes are looked at.
-    ///
-    /// The fault is the lowest that holds. A text encoding of 0 is taken as 1.
-    pub fn read(bytes: &[u8]) -> Result<Header, HeaderFault>
-        ensures header { result ≡ header_of bytes.now }
-        ensures sized { IfOk result IsSized }
+    /// The page size in bytes that the front of a database file names, of which 100 bytes are looked
+    /// at, or the lowest of the first four faults, without which it is known.
+    pub fn read_page_size(bytes: &[u8]) -> Result<u32, HeaderFault>
+        ensures size { result ≡ unless (front_fault_of bytes.now) (page_size_at bytes.now) }
+        ensures power { IfOk result (λ size. is_page_size size ≡ true) }
+        ensures low { IfOk result (λ size. 512 ≤ size) }
+        ensures high { IfOk result (λ size. size ≤ 65536) }
+        ensures long { OnOk result (100 ≤ length bytes.now) }
     {
         if bytes.len() < 100 {
             return Err(HeaderFault::Short);
@@ -140,6 +125,17 @@ impl Header {
         if !Header::is_page_size(page_size) {
             return Err(HeaderFault::BadPageSize);
         }
+        Ok(page_size)
+    }
+
+    /// Reads the header at the front of a database file, of which 100 bytes are looked at.
+    ///
+    /// The fault is the lowest that holds. A text encoding of 0 is taken as 1.
+    pub fn read(bytes: &[u8]) -> Result<Header, HeaderFault>
+        ensures header { result ≡ header_of bytes.now }
+        ensures sized { IfOk result IsSized }
+    {
+        let page_size = Header::read_page_size(bytes)?;
         if u32_of(bytes, 52) != 0 {
             return Err(HeaderFault::AutoVacuum);
         }
@@ -172,6 +168,17 @@ impl Header {
         ensures { result ≡ is_size_valid self.now }
     {
         self.pages != 0 && self.change == self.valid_for
+    }
+
+    /// In server form, the page that names the free lists.
+    pub fn node(&self) -> Option<u32>
+        ensures { result ≡ node_of self.now }
+    {
+        if self.first_free != 0 && self.free_count == 0 {
+            Some(self.first_free)
+        } else {
+            None
+        }
     }
 }
 

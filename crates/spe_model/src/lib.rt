@@ -4,6 +4,7 @@
 //! above speaks of; they are over lists, maps and numbers alone.
 #![tactic(auto)]
 
+mod bytes;
 mod catalog;
 mod commit;
 mod copies;
@@ -23,6 +24,7 @@ mod transcript;
 mod value;
 mod verdict;
 
+pub use bytes::{u16_of, u32_of};
 pub use catalog::{Catalog, Declaration, Entry};
 pub use commit::{Commit, Commits};
 pub use copies::Copies;
@@ -39,5 +41,5 @@ pub use table::{Affinity, Closed, Column, Columns, TableDef, Tables};
 pub use token::{SqlFault, SqlKind, Token, TokenKind, Tokens};
 pub use transaction::{End, Tx, TxKind, Txs};
 pub use transcript::{Cause, Outcome, Transcript, Transcripts};
-pub use value::{Rows, Value, Values};
+pub use value::{Rows, TableRows, Value, Values};
 pub use verdict::Verdict;

@@ -18,17 +18,17 @@ pub enum Refusal {
     NoColumn = 4,
     /// A condition is on a column that is not the rowid.
     NotByRowid = 5,
-    /// Values and columns differ in number, or a column or the rowid is set twice.
+    /// It has more or fewer values than columns to put them in, or one place gets two of them.
     Count = 6,
     /// A value is of a class that its column, or the rowid, does not take.
     Class = 7,
-    /// NULL is given, or left, for a NOT NULL column that is not the rowid.
+    /// A column declared NOT NULL would hold NULL; the column that is the rowid is not asked.
     NotNull = 8,
     /// UPDATE sets the rowid.
     RowidFixed = 9,
     /// A row has the rowid of the one to be inserted.
     RowidTaken = 10,
-    /// No rowid is given, and the largest is 2^63 - 1.
+    /// A new row needs a rowid, and the largest one of the table is the last there is, 2^63 - 1.
     RowidsUsedUp = 11,
     /// A record to be written has more than 1,000,000 bytes.
     TooLarge = 12,
@@ -37,7 +37,7 @@ pub enum Refusal {
 /// What a statement answers.
 #[derive(Debug, Drop)]
 pub enum Reply {
-    /// The rows that were chosen, each with its rowid and the values that were named.
+    /// Of each row that meets the conditions, by ascending rowid, the values that were named.
     Rows(Rows),
     /// How many rows were chosen.
     Count(u64),

@@ -15,8 +15,8 @@ pub enum Affinity {
     Numeric,
 }
 
-/// Why a table stays in the file untouched and is closed to statements: the lowest number that
-/// holds. This project's own.
+/// Why no statement may use a table, which its file keeps as it is. Where several hold, the lowest
+/// number is answered. This project's own.
 #[derive(Clone, Copy, Debug, PartialEq, Eq)]
 pub enum Closed {
     /// Its name begins with `sqlite_`.

@@ -56,13 +56,44 @@ impl Values {
     }
 }
 
-/// Rows, each its rowid and its values, seen as a list.
+/// Rows that are shown, each the values asked for, seen as a list.
 #[derive(Debug, Drop)]
 pub struct Rows {
-    inner: Vec<(i64, Values)>,
+    inner: Vec<Values>,
 }
 
 impl Model for Rows {
+    ghost use Rattle.std.specs.Prelude.{List};
+    ghost use Rattle.spe_model.specs.declared.value.Value.{Value as Field};
+
+    ghost Value = { List (List Field) };
+
+    ghost view = { λ t. t.inner.items };
+}
+
+impl Rows {
+    /// These rows.
+    pub fn new(inner: Vec<Values>) -> Rows
+        ensures { result ≡ inner.items }
+    {
+        Rows { inner }
+    }
+
+    /// The rows as a slice.
+    pub fn as_slice(&self) -> &[Values]
+        ensures { result.now ≡ self.now }
+    {
+        self.inner.as_slice()
+    }
+}
+
+/// Rows of a table, each its rowid and the values of all its columns, seen as a list.
+#[derive(Debug, Drop)]
+pub struct TableRows {
+    inner: Vec<(i64, Values)>,
+}
+
+impl Model for TableRows {
     ghost use Rattle.std.specs.Prelude.{List, ℤ};
     ghost use Rattle.spe_model.specs.declared.value.Value.{Value as Field};
 
@@ -71,12 +102,12 @@ impl Model for Rows {
     ghost view = { λ t. t.inner.items };
 }
 
-impl Rows {
+impl TableRows {
     /// These rows.
-    pub fn new(inner: Vec<(i64, Values)>) -> Rows
+    pub fn new(inner: Vec<(i64, Values)>) -> TableRows
         ensures { result ≡ inner.items }
     {
-        Rows { inner }
+        TableRows { inner }
     }
 
     /// The rows as a slice.

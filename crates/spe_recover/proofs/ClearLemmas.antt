@@ -1,6 +1,6 @@
 -- Cutting the file and the journals.
 use Rattle.std.proofs.Common.{◌≡◌, ◌≢◌, ℕ, zero, suc, ◌+◌, ◌-◌, ◌<◌, ◌≤◌, List, [], ◌∷◌, ◌++◌, length, map, refl, arith, sym, ap, subst, ◌∙◌, Bool, true, false, cond, Option, Some, None, length-append}
-use Rattle.std.specs.Prelude.{nat_lt, filter, ◌||◌}
+use Rattle.std.specs.Prelude.{nat_lt, filter, ◌||◌, slice_get}
 use Rattle.std.proofs.lemmas.Bool.Decides.{nat_tests}
 use Rattle.spe_model.specs.declared.file.FileNo.TheVariants.{Journal}
 use Rattle.spe_model.specs.Content.{Content}
@@ -9,6 +9,8 @@ use Rattle.spe_model.specs.Recovery.{journal_of}
 use Rattle.spe_model.specs.Trace.{History, present}
 use Rattle.spe_disk.specs.Told.{Adds}
 use Rattle.spe_model.specs.Rollback.{any_length, cuts_from, cut_of, has_length}
+use Rattle.spe_recover.specs.declared.heads.JournalHead.{JournalHead}
+use Rattle.spe_recover.specs.Heads.{HaveLengths}
 use Rattle.spe_recover.specs.Rule.{Does}
 use Rattle.spe_recover.specs.Restored.{StaysFrom}
 use Rattle.spe_recover.specs.Cuts.{AddsCut, MakesCut}
@@ -34,23 +36,26 @@ any_step content id few =
     let same : 16 - id - 1 ≡ 16 - (id + 1) = omega arith in
     any_length-next content id (16 - id) (omega arith) ∙ ap (λ (n : ℕ). has_length content id || any_length content (id + 1) n) same
 
-pub look_found : (told : Option History) (id n : ℕ) → id < 16 → 0 < n → WhereTold told (λ content. n ≡ length (journal_of content id))
-    → WhereTold told (IsLooked id) → WhereTold told (λ content. true ≡ any_length content 0 16)
-look_found None id n few some is looked = tt
-look_found (Some h) id n few some is looked =
-    let long : has_length (present h) id ≡ true = grind (arith, nat_tests, is) in
-    sym (any_step (present h) id few ∙ rw long refl) ∙ looked
+pub look_found : (content : Content) (id n : ℕ) → id < 16 → 0 < n → n ≡ length (journal_of content id) → IsLooked id content → true ≡ any_length content 0 16
+look_found content id n few some is looked =
+    let long : has_length content id ≡ true = grind (arith, nat_tests, is) in
+    sym (any_step content id few ∙ rw long refl) ∙ looked
 
-pub look_turn : (told : Option History) (id n : ℕ) → id < 16 → n ≤ 0 → WhereTold told (λ content. n ≡ length (journal_of content id))
-    → WhereTold told (IsLooked id) → WhereTold told (IsLooked (id + 1))
-look_turn None id n few nothing is looked = tt
-look_turn (Some h) id n few nothing is looked =
-    let short : has_length (present h) id ≡ false = grind (arith, nat_tests, is) in
-    sym (any_step (present h) id few ∙ rw short refl) ∙ looked
+pub look_turn : (content : Content) (id n : ℕ) → id < 16 → n ≤ 0 → n ≡ length (journal_of content id) → IsLooked id content → IsLooked (id + 1) content
+look_turn content id n few nothing is looked =
+    let short : has_length content id ≡ false = grind (arith, nat_tests, is) in
+    sym (any_step content id few ∙ rw short refl) ∙ looked
 
-pub look_none : (told : Option History) (id : ℕ) → 16 ≤ id → WhereTold told (IsLooked id) → WhereTold told (λ content. false ≡ any_length content 0 16)
-look_none None id all looked = tt
-look_none (Some h) id all looked = sym (any_length-none (present h) id (16 - id) (omega arith)) ∙ looked
+pub look_none : (content : Content) (id : ℕ) → 16 ≤ id → IsLooked id content → false ≡ any_length content 0 16
+look_none content id all looked = sym (any_length-none content id (16 - id) (omega arith)) ∙ looked
+
+-- how long a journal was that stayed
+pub length_now : (first now : Option History) (id : ℕ) (heads : List JournalHead) (head : JournalHead) → slice_get heads id ≡ Some head → StaysFrom id first now
+    → WhereTold first (HaveLengths heads) → WhereTold now (λ content. head.length ≡ length (journal_of content id))
+length_now None None id heads head is stays known = tt
+length_now None (Some k) id heads head is stays known = absurd cc
+length_now (Some h) None id heads head is stays known = absurd stays
+length_now (Some h) (Some k) id heads head is stays known = known id head is ∙ ap length (sym (stays id (omega arith)))
 
 -- one journal
 cut_one : (content : Content) (id : ℕ) → cuts_from content id 1 ≡ cond (has_length content id) (cut_of id ∷ []) []
@@ -78,18 +83,19 @@ cut_some (Some h) new id n some is adds =
     (subst (Adds (Some h) new) (sym one) adds, rw one refl)
 
 pub cut_stays : (told new : Option History) (id : ℕ) → Adds told new (cut_of id ∷ []) → StaysFrom (id + 1) told new
-cut_stays None new id adds = tt
+cut_stays None new id adds = adds
 cut_stays (Some h) None id adds = absurd cc
 cut_stays (Some h) (Some k) id adds = λ i above.
     let same : k ≡ record { first = h.first; trace = h.trace ++ cut_of id ∷ [] } = cc in
     ap (λ (c : Content). journal_of c i) (present_after h (cut_of id ∷ []) k same) ∙ file_stays (present h) (Journal id) (Journal i) _ (omega arith)
 
 pub StaysFrom-same : (id : ℕ) (told : Option History) → StaysFrom id told told
-StaysFrom-same id None = tt
+StaysFrom-same id None = refl
 StaysFrom-same id (Some h) = λ i above. refl
 
 pub StaysFrom-next : (id : ℕ) (first now next : Option History) → StaysFrom id first now → StaysFrom (id + 1) now next → StaysFrom (id + 1) first next
-StaysFrom-next id None now next a b = tt
+StaysFrom-next id None None next a b = b
+StaysFrom-next id None (Some k) next a b = absurd cc
 StaysFrom-next id (Some h) None next a b = absurd a
 StaysFrom-next id (Some h) (Some k) None a b = absurd b
 StaysFrom-next id (Some h) (Some k) (Some l) a b = λ i above. b i above ∙ a i (omega arith)

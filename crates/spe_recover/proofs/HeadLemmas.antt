@@ -1,10 +1,11 @@
 -- The heads of journals.
-use Rattle.std.proofs.Common.{◌≡◌, ℕ, zero, suc, ◌+◌, ◌-◌, ◌<◌, ◌≤◌, List, [], ◌∷◌, ◌++◌, length, take, drop, min, refl, arith, sym, ap, ◌∙◌, Bool, true, false, cond, Option, Some, None, length-take}
-use Rattle.std.specs.Prelude.{◌==◌, not, ◌&&◌}
+use Rattle.std.proofs.Common.{◌≡◌, ℕ, zero, suc, ◌+◌, ◌-◌, ◌<◌, ◌≤◌, List, [], ◌∷◌, ◌++◌, length, take, drop, min, refl, arith, sym, ap, subst, ◌∙◌, Bool, true, false, cond, Option, Some, None, length-take}
+use Rattle.std.specs.Prelude.{◌==◌, not, ◌&&◌, slice_get, slice_set}
 use Rattle.std.specs.List.{find}
 use Rattle.std.proofs.Math.Seq.{take-append_seam}
 use Rattle.std.proofs.lemmas.List.{take-append-drop, drop_all, take_all}
 use Rattle.std.proofs.lemmas.Bool.{cases_lt}
+use Rattle.std.proofs.lemmas.Option.{slice_get_within}
 use Rattle.std.proofs.Common.{⊎_elim}
 use Rattle.spe_model.specs.Big.{u32_at}
 use Rattle.spe_model.specs.Content.{Content, filled}
@@ -14,8 +15,13 @@ use Rattle.spe_model.specs.Trace.{History, present}
 use Rattle.spe_journal.specs.Kind.{kind_of, saved_under}
 use Rattle.spe_journal.specs.declared.head.JournalKind.{JournalKind}
 use Rattle.spe_journal.specs.declared.head.JournalKind.TheVariants.{Cold, OtherSize, Hot}
-use Rattle.spe_recover.specs.Heads.{names_other, other_from, IsOther}
+use Rattle.spe_recover.specs.declared.heads.JournalHead.{JournalHead}
+use Rattle.spe_recover.specs.declared.heads.OtherSize as others
+use Rattle.spe_model.specs.Rollback.{any_length}
+use Rattle.spe_recover.specs.Heads.{names_other, other_from, IsOther, IsHead, AreHeads, HaveLengths}
+use Rattle.spe_recover.specs.Restored.{Stays}
 use Rattle.spe_recover.specs.Told.{WhereTold}
+use Rattle.spe_recover.proofs.RestoreLemmas.{get_set}
 
 -- the bytes that were there, without the zeros behind them
 pub front_of : (bytes : List ℕ) (n count : ℕ) → count ≡ min n (length bytes - 0) → take count (filled bytes 0 n) ≡ take n bytes
@@ -118,33 +124,96 @@ other_from-none content page_size id all = let none : 16 - id ≡ 0 = omega arit
 abbrev pub IsSearched : ℕ → ℕ → Content → Type 0
 IsSearched page_size id content = other_from content page_size id (16 - id) ≡ other_from content page_size 0 16
 
-pub searched_turn : (told : Option History) (page_size id : ℕ) (kind : JournalKind) → id < 16
-    → WhereTold told (λ content. kind_of page_size (journal_of content id) ≡ kind) → ((size : ℕ) → kind ≡ OtherSize size → ⊥)
-    → WhereTold told (IsSearched page_size id) → WhereTold told (IsSearched page_size (id + 1))
-searched_turn None page_size id kind some same other before = tt
-searched_turn (Some h) page_size id kind some same other before =
-    let missed : names_other page_size (journal_of (present h) id) ≡ false =
-    names_other-kind page_size (journal_of (present h) id) ∙ ap is_other same ∙ not_other kind other in
-    sym (other_from-no (present h) page_size id some missed) ∙ before
+pub searched_turn : (content : Content) (page_size id : ℕ) (kind : JournalKind) → id < 16 → kind_of page_size (journal_of content id) ≡ kind
+    → ((size : ℕ) → kind ≡ OtherSize size → ⊥) → IsSearched page_size id content → IsSearched page_size (id + 1) content
+searched_turn content page_size id kind some same other before =
+    let missed : names_other page_size (journal_of content id) ≡ false =
+    names_other-kind page_size (journal_of content id) ∙ ap is_other same ∙ not_other kind other in
+    sym (other_from-no content page_size id some missed) ∙ before
   where
     not_other : (kind : JournalKind) → ((size : ℕ) → kind ≡ OtherSize size → ⊥) → is_other kind ≡ false
     not_other Cold other = refl
     not_other (OtherSize n) other = absurd (other n refl)
     not_other (Hot n) other = refl
 
-pub searched_found : (told : Option History) (page_size id size : ℕ) → id < 16
-    → WhereTold told (λ content. kind_of page_size (journal_of content id) ≡ OtherSize size)
-    → WhereTold told (IsSearched page_size id) → WhereTold told (λ content. IsOther content page_size (Some (record { id = id; size = size })))
-searched_found None page_size id size some same before = tt
-searched_found (Some h) page_size id size some same before =
-    let hit : names_other page_size (journal_of (present h) id) ≡ true =
-    names_other-kind page_size (journal_of (present h) id) ∙ ap is_other same in
+pub searched_found : (content : Content) (page_size id size : ℕ) → id < 16 → kind_of page_size (journal_of content id) ≡ OtherSize size
+    → IsSearched page_size id content → IsOther content page_size (Some (record { id = id; size = size }))
+searched_found content page_size id size some same before =
+    let hit : names_other page_size (journal_of content id) ≡ true =
+    names_other-kind page_size (journal_of content id) ∙ ap is_other same in
     record {
-      first = sym before ∙ other_from-yes (present h) page_size id some hit;
-      named = named-kind page_size size (journal_of (present h) id) same;
+      first = sym before ∙ other_from-yes content page_size id some hit;
+      named = named-kind page_size size (journal_of content id) same;
     }
 
-pub searched_none : (told : Option History) (page_size id : ℕ) → 16 ≤ id
-    → WhereTold told (IsSearched page_size id) → WhereTold told (λ content. IsOther content page_size None)
-searched_none None page_size id all before = tt
-searched_none (Some h) page_size id all before = sym before ∙ other_from-none (present h) page_size id all
+pub searched_none : (content : Content) (page_size id : ℕ) → 16 ≤ id → IsSearched page_size id content → IsOther content page_size None
+searched_none content page_size id all before = sym before ∙ other_from-none content page_size id all
+
+-- what is so of each content is so of the one that is told
+pub told_map : (told : Option History) (P Q : Content → Type 0) → ((content : Content) → P content → Q content) → WhereTold told P → WhereTold told Q
+told_map None P Q step holds = tt
+told_map (Some h) P Q step holds = step (present h) holds
+
+-- one head of several
+pub told_one : (told : Option History) (page_size id : ℕ) (heads : List JournalHead) (head : JournalHead) → slice_get heads id ≡ Some head
+    → WhereTold told (λ content. AreHeads content page_size heads) → WhereTold told (λ content. IsHead content page_size id head)
+told_one told page_size id heads head is known =
+    told_map told (λ content. AreHeads content page_size heads) (λ content. IsHead content page_size id head) (λ content all. all id head is) known
+
+pub told_head : (told : Option History) (page_size id length_of : ℕ) (kind : JournalKind) → WhereTold told (λ content. kind_of page_size (journal_of content id) ≡ kind)
+    → WhereTold told (λ content. hot_records page_size (journal_of content id) ≡ saved_under kind page_size (drop 512 (journal_of content id)))
+    → WhereTold told (λ content. length_of ≡ length (journal_of content id))
+    → WhereTold told (λ content. IsHead content page_size id (record { kind = kind; length = length_of }))
+told_head None page_size id length_of kind says saves long = tt
+told_head (Some h) page_size id length_of kind says saves long = record { kind = says; saves = saves; length = long }
+
+-- the heads of the journals before one
+abbrev pub AreFirst : (page_size id : ℕ) → List JournalHead → Content → Type 0
+AreFirst page_size id heads content = (i : ℕ) (head : JournalHead) → i < id → slice_get heads i ≡ Some head → IsHead content page_size i head
+
+pub heads_first : (told : Option History) (page_size : ℕ) (heads : List JournalHead) → WhereTold told (AreFirst page_size 0 heads)
+heads_first None page_size heads = tt
+heads_first (Some h) page_size heads = λ i head below is. absurd (omega arith)
+
+get_same : {X : Type 0} (xs : List X) (i : ℕ) (x y : X) → slice_get (slice_set xs i x) i ≡ Some y → x ≡ y
+get_same [] i x y is = absurd cc
+get_same (z ∷ zs) zero x y is = cc
+get_same (z ∷ zs) (suc i) x y is = get_same zs i x y is
+
+pub heads_turn : (told : Option History) (page_size id : ℕ) (heads : List JournalHead) (next : JournalHead) → WhereTold told (λ content. IsHead content page_size id next)
+    → WhereTold told (AreFirst page_size id heads) → WhereTold told (AreFirst page_size (id + 1) (slice_set heads id next))
+heads_turn None page_size id heads next one before = tt
+heads_turn (Some h) page_size id heads next one before = λ i head below is. ⊎_elim
+    (λ (early : i < id). before i head early (sym (get_set heads id i next (omega arith)) ∙ is))
+    (λ (last : id ≤ i).
+    let here : i ≡ id = omega arith in
+    let same : next ≡ head = get_same heads id next head (subst (λ (n : ℕ). slice_get (slice_set heads id next) n ≡ Some head) here is) in
+    rw here (subst (λ (x : JournalHead). IsHead (present h) page_size id x) same one))
+    (cases_lt i id)
+
+pub heads_all : (told : Option History) (page_size id : ℕ) (heads : List JournalHead) → length heads ≡ 16 → 16 ≤ id
+    → WhereTold told (AreFirst page_size id heads) → WhereTold told (λ content. AreHeads content page_size heads)
+heads_all None page_size id heads long all known = tt
+heads_all (Some h) page_size id heads long all known = λ i head is. known i head (omega (arith, slice_get_within heads i head is)) is
+
+pub other_told : (told : Option History) (page_size : ℕ) (heads : List JournalHead) (found other : Option others.OtherSize) → found ≡ other
+    → ((content : Content) (page_size : ℕ) → AreHeads content page_size heads → IsOther content page_size found)
+    → WhereTold told (λ content. AreHeads content page_size heads) → WhereTold told (λ content. IsOther content page_size other)
+other_told told page_size heads found other is finds known =
+    told_map told (λ content. AreHeads content page_size heads) (λ content. IsOther content page_size other)
+    (λ content all. subst (λ (o : Option others.OtherSize). IsOther content page_size o) is (finds content page_size all)) known
+
+pub any_told : (told : Option History) (page_size : ℕ) (heads : List JournalHead) (found any : Bool) → found ≡ any
+    → ((content : Content) → HaveLengths heads content → found ≡ any_length content 0 16)
+    → WhereTold told (λ content. AreHeads content page_size heads) → WhereTold told (λ content. any ≡ any_length content 0 16)
+any_told told page_size heads found any is finds known =
+    told_map told (λ content. AreHeads content page_size heads) (λ content. any ≡ any_length content 0 16)
+    (λ content all. sym is ∙ finds content (λ id head at. (all id head at).length)) known
+
+-- how long the journals were that stayed
+pub lengths_now : (first now : Option History) (page_size : ℕ) (heads : List JournalHead) → Stays first now
+    → WhereTold first (λ content. AreHeads content page_size heads) → WhereTold now (HaveLengths heads)
+lengths_now None None page_size heads stays known = tt
+lengths_now None (Some k) page_size heads stays known = absurd cc
+lengths_now (Some h) None page_size heads stays known = absurd stays
+lengths_now (Some h) (Some k) page_size heads stays known = λ id head is. (known id head is).length ∙ ap length (sym (stays id))

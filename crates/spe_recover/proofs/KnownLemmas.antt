@@ -6,15 +6,15 @@ use Rattle.spe_model.specs.declared.header.HeaderFault.{HeaderFault}
 use Rattle.spe_model.specs.declared.recovery.RecoverFault.{RecoverFault}
 use Rattle.spe_model.specs.declared.recovery.RecoverFault.TheVariants as refusals
 use Rattle.spe_model.specs.Content.{Content, bytes_of}
-use Rattle.spe_model.specs.Header.{page_size_at}
+use Rattle.spe_model.specs.Header.{front_fault_of, page_size_at, unless}
 use Rattle.spe_model.specs.Recovery.{file_page_size, recovered, recovered_front, recovered_sized}
 use Rattle.spe_model.specs.Trace.{History, present}
 use Rattle.spe_recover.specs.declared.heads.OtherSize.{OtherSize}
 use Rattle.spe_recover.specs.declared.known.Known.{Known}
 use Rattle.spe_recover.specs.declared.seen.Seen.{Seen}
 use Rattle.spe_recover.specs.declared.survey.Survey.{Survey}
-use Rattle.spe_recover.specs.Front.{fault_of}
-use Rattle.spe_recover.specs.Heads.{IsOther, other_from}
+use Rattle.spe_recover.specs.declared.heads.JournalHead.{JournalHead}
+use Rattle.spe_recover.specs.Heads.{AreHeads, IsOther, other_from}
 use Rattle.spe_recover.specs.Seen.{IsScanned}
 use Rattle.spe_recover.specs.Survey.{IsOfFiles, Surveys, IsSurvey, hot_outcome, sized_outcome}
 use Rattle.spe_recover.specs.Known.{Answers, IsFront, IsKnown, IsRefused}
@@ -55,18 +55,19 @@ Surveyed page_size size front seen result =
     (content : Content) → page_size ≡ file_page_size content → size ≡ length (bytes_of content Database)
     → IsScanned content page_size seen → front ≡ take 100 (bytes_of content Database) → Surveys content result (hot_outcome content)
 
-pub survey_ok : (told : Option History) (page_size size : ℕ) (front : List ℕ) (seen : Seen) (survey : Survey) → WhereTold told (IsFront page_size front)
-    → WhereTold told (λ content. IsOther content page_size None) → WhereTold told (λ content. IsScanned content page_size seen)
+pub survey_ok : (told : Option History) (page_size size : ℕ) (front : List ℕ) (seen : Seen) (heads : List JournalHead) (survey : Survey) → WhereTold told (IsFront page_size front)
+    → WhereTold told (λ content. AreHeads content page_size heads) → WhereTold told (λ content. IsOther content page_size None) → WhereTold told (λ content. IsScanned content page_size seen)
     → WhereTold told (λ content. size ≡ length (bytes_of content Database)) → Surveyed page_size size front seen (Ok survey)
-    → WhereTold told (λ content. IsKnown content (record { survey = survey; seen = seen }) (sized_outcome content))
-survey_ok None page_size size front seen survey base other scanned sized surveyed = tt
-survey_ok (Some h) page_size size front seen survey base other scanned sized surveyed =
+    → WhereTold told (λ content. IsKnown content (record { survey = survey; seen = seen; heads = heads }) (sized_outcome content))
+survey_ok None page_size size front seen heads survey base known other scanned sized surveyed = tt
+survey_ok (Some h) page_size size front seen heads survey base known other scanned sized surveyed =
     let found : IsSurvey (present h) survey (hot_outcome (present h)) = surveyed (present h) base.paged sized scanned base.first in
     let same : hot_outcome (present h) ≡ sized_outcome (present h) = sym (sized_by (present h) page_size base.paged None other ∙ hot_by (present h)) in
     let pages : page_size ≡ survey.page_size = base.paged ∙ sym found.paged in
     record {
       survey = subst (λ (outcome : Outcome). IsSurvey (present h) survey outcome) same found;
       seen = subst (λ (n : ℕ). IsScanned (present h) n seen) pages scanned;
+      heads = subst (λ (n : ℕ). AreHeads (present h) n heads) pages known;
     }
 
 pub survey_err : (told : Option History) (page_size size : ℕ) (front : List ℕ) (seen : Seen) (fault : RecoverFault) → WhereTold told (IsFront page_size front)
@@ -78,17 +79,30 @@ survey_err (Some h) page_size size front seen fault base other scanned sized sur
     is_refused fault (sized_outcome (present h)) plain
     (sized_by (present h) page_size base.paged None other ∙ hot_by (present h) ∙ surveyed (present h) base.paged sized scanned base.first)
 
-front_by : (content : Content) (bytes : List ℕ) (found : Option HeaderFault) → bytes ≡ take 100 (bytes_of content Database) → fault_of bytes ≡ found
+-- what reading the page size answers, by the fault that keeps it from being known
+pub none_by : (found : Option HeaderFault) (x n : ℕ) → Ok n ≡ unless found x → found ≡ None
+none_by None x n e = refl
+none_by (Some f) x n e = absurd cc
+
+pub some_by : (found : Option HeaderFault) (x : ℕ) (f : HeaderFault) → Err f ≡ unless found x → found ≡ Some f
+some_by None x f e = absurd cc
+some_by (Some g) x f e = cc
+
+pub size_by : (found : Option HeaderFault) (x n : ℕ) → Ok n ≡ unless found x → n ≡ x
+size_by None x n e = cc
+size_by (Some f) x n e = absurd cc
+
+front_by : (content : Content) (bytes : List ℕ) (found : Option HeaderFault) → bytes ≡ take 100 (bytes_of content Database) → front_fault_of bytes ≡ found
     → recovered content ≡ recovered_front content found
-unfolding recovered fault_of
-front_by content bytes found is fault = ap (recovered_front content) (subst (λ (b : List ℕ). fault_of b ≡ found) is fault)
+unfolding recovered
+front_by content bytes found is fault = ap (recovered_front content) (subst (λ (b : List ℕ). front_fault_of b ≡ found) is fault)
 
 sized_is : (content : Content) → recovered_front content None ≡ sized_outcome content
 unfolding sized_outcome
 sized_is content = refl
 
 pub find_sized : (told : Option History) (n : ℕ) (front : List ℕ) (result : Result Known RecoverFault)
-    → WhereTold told (λ content. take n front ≡ take 100 (bytes_of content Database)) → fault_of (take n front) ≡ None
+    → WhereTold told (λ content. take n front ≡ take 100 (bytes_of content Database)) → front_fault_of (take n front) ≡ None
     → WhereTold told (λ content. Answers content result (sized_outcome content)) → WhereTold told (λ content. Answers content result (recovered content))
 find_sized None n front result is none answers = tt
 find_sized (Some h) n front result is none answers =
@@ -96,7 +110,7 @@ find_sized (Some h) n front result is none answers =
     subst (λ (outcome : Outcome). Answers (present h) result outcome) same answers
 
 pub find_refused : (told : Option History) (n : ℕ) (front : List ℕ) (fault : HeaderFault)
-    → WhereTold told (λ content. take n front ≡ take 100 (bytes_of content Database)) → fault_of (take n front) ≡ Some fault
+    → WhereTold told (λ content. take n front ≡ take 100 (bytes_of content Database)) → front_fault_of (take n front) ≡ Some fault
     → WhereTold told (λ content. recovered content ≡ Err (refusals.Header fault))
 find_refused None n front fault is some = tt
 find_refused (Some h) n front fault is some = front_by (present h) (take n front) (Some fault) is some

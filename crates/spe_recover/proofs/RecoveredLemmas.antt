@@ -5,20 +5,30 @@ use Rattle.spe_model.specs.declared.header.HeaderFault.{HeaderFault}
 use Rattle.spe_model.specs.declared.recovery.RecoverFault.{RecoverFault}
 use Rattle.spe_model.specs.declared.recovery.RecoverFault.TheVariants as refusals
 use Rattle.spe_model.specs.Content.{Content}
-use Rattle.spe_model.specs.Header.{header_of, fields, unless, faults, has_fault}
+use Rattle.spe_model.specs.Header.{header_of, fields, unless, faults, has_fault, node_of}
 use Rattle.spe_model.specs.Journal.{numbers_from}
 use Rattle.spe_model.specs.Recovery.{image_of, recovered, file_page_size}
 use Rattle.spe_model.specs.Trace.{History, present}
 use Rattle.std.specs.List.{find}
 use Rattle.spe_recover.specs.declared.known.Known.{Known}
 use Rattle.spe_recover.specs.declared.want.Want.{Want}
-use Rattle.spe_recover.specs.Known.{IsKnown, IsRefused}
+use Rattle.std.specs.Int.{bit_at}
+use Rattle.std.specs.Prelude.{◌<◌, if◌then◌else◌}
+use Rattle.spe_model.specs.Journal.{is_hot}
+use Rattle.spe_model.specs.Recovery.{journal_of}
+use Rattle.spe_recover.specs.declared.heads.JournalHead.{JournalHead}
+use Rattle.spe_recover.specs.declared.survey.Survey.{Survey}
+use Rattle.spe_recover.specs.declared.stop.Stop.{Stop}
+use Rattle.spe_recover.specs.declared.stop.Stop.TheVariants as stops
+use Rattle.spe_recover.specs.Heads.{AreHeads}
+use Rattle.spe_recover.specs.Restored.{Holders}
+use Rattle.spe_recover.specs.Known.{IsKnown, IsRefused, of_stop}
 use Rattle.spe_recover.specs.Survey.{images_to}
 use Rattle.spe_recover.specs.Told.{WhereTold}
 use Rattle.spe_model.specs.Rollback.{rule_of}
 use Rattle.spe_recover.specs.Cuts.{AddsCut, MakesCut}
 use Rattle.spe_recover.specs.Written.{IsReady, Makes}
-use Rattle.spe_recover.specs.Recovered.{HasPages, IsRefusal, IsUnwanted, is_wanted, node_of, rollback_of, rollback_to}
+use Rattle.spe_recover.specs.Recovered.{AreHotBits, HasPages, IsPlain, IsRefusal, IsUnwanted, is_wanted, rollback_of, rollback_to}
 use Rattle.spe_recover.proofs.CutLemmas.{IsCut-whole}
 use Rattle.spe_model.specs.Recovery.{recovered_header}
 use Rattle.spe_recover.proofs.SurveyLemmas.{some_of, is_read}
@@ -123,3 +133,22 @@ rolling_done None new known made k makes = tt
 rolling_done (Some h) new known made k makes =
     let ops = rule_of (present h) known.survey.pages in
     subst (AddsCut (Some h) new) (rollback_is (present h) known k) (record { made = ops; adds = makes.adds; holds = IsCut-whole ops })
+
+pub found_heads : (told : Option History) (known : Known) → WhereTold told (λ content. IsKnown content known (recovered content))
+    → WhereTold told (λ content. AreHeads content known.survey.page_size known.heads)
+found_heads None known k = tt
+found_heads (Some h) known k = k.heads
+
+-- the bits of the journals that are rolled back
+pub found_rolled : (told : Option History) (page_size rolled : ℕ) (heads : List JournalHead) (survey : Survey) (holders : Holders) → page_size ≡ survey.page_size
+    → ((content : Content) (page_size : ℕ) → AreHeads content page_size heads → (id : ℕ) → id < 16 → bit_at rolled id ≡ (if is_hot page_size (journal_of content id) then 1 else 0))
+    → WhereTold told (λ content. AreHeads content page_size heads) → WhereTold told (IsReady survey holders) → WhereTold told (λ content. AreHotBits content rolled)
+found_rolled None page_size rolled heads survey holders is bits known ready = tt
+found_rolled (Some h) page_size rolled heads survey holders is bits known ready =
+    let paged : page_size ≡ file_page_size (present h) = is ∙ ready.paged in
+    bits (present h) (file_page_size (present h)) (subst (λ (n : ℕ). AreHeads (present h) n heads) paged known)
+
+-- want of memory came before any operation
+pub rolling_untouched : (stop : Stop) (fault : RecoverFault) (old new : Option History) → fault ≡ of_stop stop → (stop ≡ stops.Memory → new ≡ old) → IsPlain fault → new ≡ old
+rolling_untouched stops.Disk fault old new is same plain = absurd (subst IsPlain is plain)
+rolling_untouched stops.Memory fault old new is same plain = same refl

@@ -34,7 +34,7 @@ Adds-append (Some h) (Some k) new xs ys a b =
     b ∙ ap (λ (k : History). Some (record { first = k.first; trace = k.trace ++ ys })) same
     ∙ ap (λ (trace : List Operation). Some (record { first = h.first; trace = trace })) (append_assoc h.trace xs ys)
 
-get_set : {X : Type 0} (xs : List X) (i j : ℕ) (x : X) → i ≢ j → slice_get (slice_set xs i x) j ≡ slice_get xs j
+pub get_set : {X : Type 0} (xs : List X) (i j : ℕ) (x : X) → i ≢ j → slice_get (slice_set xs i x) j ≡ slice_get xs j
 get_set [] i j x apart = refl
 get_set (y ∷ ys) zero zero x apart = absurd (apart refl)
 get_set (y ∷ ys) zero (suc j) x apart = refl
@@ -63,18 +63,19 @@ present_after h ops k is = ap present is ∙ after-append h.first h.trace ops
 
 pub told_stays : (old new : Option History) (op : Operation) → ((content : Content) (id : ℕ) → journal_of (made_by op content) id ≡ journal_of content id)
     → Adds old new (op ∷ []) → Stays old new
-told_stays None new op keeps adds = tt
+told_stays None new op keeps adds = adds
 told_stays (Some h) None op keeps adds = absurd cc
 told_stays (Some h) (Some k) op keeps adds = λ id.
     let same : k ≡ record { first = h.first; trace = h.trace ++ op ∷ [] } = cc in
     ap (λ (c : Content). journal_of c id) (present_after h (op ∷ []) k same) ∙ keeps (present h) id
 
 pub Stays-same : (told : Option History) → Stays told told
-Stays-same None = tt
+Stays-same None = refl
 Stays-same (Some h) = λ id. refl
 
 pub Stays-trans : (old middle new : Option History) → Stays old middle → Stays middle new → Stays old new
-Stays-trans None middle new a b = tt
+Stays-trans None None new a b = b
+Stays-trans None (Some k) new a b = absurd cc
 Stays-trans (Some h) None new a b = absurd a
 Stays-trans (Some h) (Some k) None a b = absurd b
 Stays-trans (Some h) (Some k) (Some l) a b = λ id. b id ∙ a id
@@ -84,6 +85,13 @@ pub told_before : (old now : Option History) (id : ℕ) (P : List ℕ → Type 0
 told_before None now id P stays holds = tt
 told_before (Some h) None id P stays holds = absurd stays
 told_before (Some h) (Some k) id P stays holds = subst P (stays id) holds
+
+-- what was so of a journal is so of it now
+pub told_now : (old now : Option History) (id : ℕ) (P : List ℕ → Type 0) → Stays old now → WhereTold old (λ content. P (journal_of content id)) → WhereTold now (λ content. P (journal_of content id))
+told_now None None id P stays holds = tt
+told_now None (Some k) id P stays holds = absurd cc
+told_now (Some h) None id P stays holds = absurd stays
+told_now (Some h) (Some k) id P stays holds = subst P (sym (stays id)) holds
 
 -- the pages that are due, once some records were written back
 firsts-same : (f g : ℕ → Bool) (saved : List Saved) → ((p : ℕ) → f p ≡ g p) → firsts f saved ≡ firsts g saved

@@ -12,12 +12,7 @@ use Rattle.spe_model.specs.Trace.{History, present}
 use Rattle.spe_journal.specs.Kind.{kind_of}
 use Rattle.spe_journal.specs.declared.head.JournalKind.{JournalKind}
 use Rattle.spe_journal.specs.declared.head.JournalKind.TheVariants.{Cold, OtherSize, Hot}
-use Rattle.spe_recover.specs.Told.{WhereTold}
-
-abbrev pub says_hot : JournalKind → Bool
-says_hot Cold = false
-says_hot (OtherSize n) = false
-says_hot (Hot n) = true
+use Rattle.spe_recover.specs.Heads.{says_hot}
 
 hot_tests : (headed same : Bool) (named nonce : ℕ) → headed && same ≡ says_hot (cond headed (cond same (Hot nonce) (OtherSize named)) Cold)
 hot_tests true true named nonce = refl
@@ -28,24 +23,20 @@ hot-kind : (page_size : ℕ) (journal : List ℕ) → is_hot page_size journal �
 unfolding is_hot kind_of
 hot-kind page_size journal = hot_tests (has_head journal) (head_page_size journal == page_size) (head_page_size journal) (u32_at journal 12)
 
-pub hot_told : (told : Option History) (page_size id : ℕ) (kind : JournalKind) → WhereTold told (λ content. kind_of page_size (journal_of content id) ≡ kind)
-    → WhereTold told (λ content. says_hot kind ≡ is_hot page_size (journal_of content id))
-hot_told None page_size id kind is = tt
-hot_told (Some h) page_size id kind is = sym (hot-kind page_size (journal_of (present h) id) ∙ ap says_hot is)
+pub hot_is : (content : Content) (page_size id : ℕ) (kind : JournalKind) → kind_of page_size (journal_of content id) ≡ kind → says_hot kind ≡ is_hot page_size (journal_of content id)
+hot_is content page_size id kind is = sym (hot-kind page_size (journal_of content id) ∙ ap says_hot is)
 
 -- the bits so far
 pub record AreRolled (page_size id rolled : ℕ) (content : Content) : Type 0 where
   pub set : (i : ℕ) → i < id → bit_at rolled i ≡ cond (is_hot page_size (journal_of content i)) 1 0
   pub unset : (i : ℕ) → id ≤ i → bit_at rolled i ≡ 0
 
-pub rolled_first : (told : Option History) (page_size : ℕ) → WhereTold told (AreRolled page_size 0 0)
-rolled_first None page_size = tt
-rolled_first (Some h) page_size = record { set = λ i below. absurd (omega arith); unset = λ i above. bit_at-zero i }
+pub rolled_first : (content : Content) (page_size : ℕ) → AreRolled page_size 0 0 content
+rolled_first content page_size = record { set = λ i below. absurd (omega arith); unset = λ i above. bit_at-zero i }
 
-pub rolled_hot : (told : Option History) (page_size id rolled : ℕ) → id < 16 → WhereTold told (λ content. true ≡ is_hot page_size (journal_of content id))
-    → WhereTold told (AreRolled page_size id rolled) → WhereTold told (AreRolled page_size (id + 1) (bit_or rolled (1 * 2 ^ id % 2 ^ 16)))
-rolled_hot None page_size id rolled few hot so_far = tt
-rolled_hot (Some h) page_size id rolled few hot so_far = record {
+rolled_hot : (content : Content) (page_size id rolled : ℕ) → id < 16 → true ≡ is_hot page_size (journal_of content id)
+    → AreRolled page_size id rolled content → AreRolled page_size (id + 1) (bit_or rolled (1 * 2 ^ id % 2 ^ 16)) content
+rolled_hot content page_size id rolled few hot so_far = record {
   set = λ i below. ⊎_elim
       (λ (same : i ≡ id). rw (same, ← hot) (bit_at_set_same w16 rolled id few))
       (λ (apart : i ≢ id). bit_at_set_other w16 rolled id few i apart ∙ so_far.set i (omega arith))
@@ -53,10 +44,9 @@ rolled_hot (Some h) page_size id rolled few hot so_far = record {
   unset = λ i above. bit_at_set_other w16 rolled id few i (omega arith) ∙ so_far.unset i (omega arith);
 }
 
-pub rolled_cold : (told : Option History) (page_size id rolled : ℕ) → id < 16 → WhereTold told (λ content. false ≡ is_hot page_size (journal_of content id))
-    → WhereTold told (AreRolled page_size id rolled) → WhereTold told (AreRolled page_size (id + 1) rolled)
-rolled_cold None page_size id rolled few cold so_far = tt
-rolled_cold (Some h) page_size id rolled few cold so_far = record {
+rolled_cold : (content : Content) (page_size id rolled : ℕ) → id < 16 → false ≡ is_hot page_size (journal_of content id)
+    → AreRolled page_size id rolled content → AreRolled page_size (id + 1) rolled content
+rolled_cold content page_size id rolled few cold so_far = record {
   set = λ i below. ⊎_elim
       (λ (same : i ≡ id). rw (same, ← cold) (so_far.unset id (omega arith)))
       (λ (apart : i ≢ id). so_far.set i (omega arith))
@@ -64,12 +54,11 @@ rolled_cold (Some h) page_size id rolled few cold so_far = record {
   unset = λ i above. so_far.unset i (omega arith);
 }
 
-pub rolled_all : (told : Option History) (page_size id rolled : ℕ) → 16 ≤ id → WhereTold told (AreRolled page_size id rolled)
-    → WhereTold told (λ content. (i : ℕ) → i < 16 → bit_at rolled i ≡ cond (is_hot page_size (journal_of content i)) 1 0)
-rolled_all None page_size id rolled all so_far = tt
-rolled_all (Some h) page_size id rolled all so_far = λ i below. so_far.set i (omega arith)
+pub rolled_all : (content : Content) (page_size id rolled : ℕ) → 16 ≤ id → AreRolled page_size id rolled content
+    → (i : ℕ) → i < 16 → bit_at rolled i ≡ cond (is_hot page_size (journal_of content i)) 1 0
+rolled_all content page_size id rolled all so_far = λ i below. so_far.set i (omega arith)
 
-pub rolled_turn : (told : Option History) (page_size id rolled next : ℕ) (hot : Bool) → id < 16 → WhereTold told (λ content. hot ≡ is_hot page_size (journal_of content id))
-    → next ≡ cond hot (bit_or rolled (1 * 2 ^ id % 2 ^ 16)) rolled → WhereTold told (AreRolled page_size id rolled) → WhereTold told (AreRolled page_size (id + 1) next)
-rolled_turn told page_size id rolled next true few hot is so_far = rw is (rolled_hot told page_size id rolled few hot so_far)
-rolled_turn told page_size id rolled next false few hot is so_far = rw is (rolled_cold told page_size id rolled few hot so_far)
+pub rolled_turn : (content : Content) (page_size id rolled next : ℕ) (hot : Bool) → id < 16 → hot ≡ is_hot page_size (journal_of content id)
+    → next ≡ cond hot (bit_or rolled (1 * 2 ^ id % 2 ^ 16)) rolled → AreRolled page_size id rolled content → AreRolled page_size (id + 1) next content
+rolled_turn content page_size id rolled next true few hot is so_far = rw is (rolled_hot content page_size id rolled few hot so_far)
+rolled_turn content page_size id rolled next false few hot is so_far = rw is (rolled_cold content page_size id rolled few hot so_far)

@@ -8,6 +8,7 @@ use Rattle.spe_model.specs.Content.{Content}
 use Rattle.spe_model.specs.Recovery.{file_page, file_page_size, journal_of, pages_to, recovered, recovered_header}
 use Rattle.spe_model.specs.Rollback.{rule_of}
 use Rattle.spe_model.specs.Settled.{IsFound, LeavesPages, header_in}
+use Rattle.spe_model.specs.Header.{node_of}
 use Rattle.spe_model.specs.Trace.{History, IsCut, present}
 use Rattle.spe_crash.specs.Pages.{QuietIsWhole, RecoveredAreHeaded}
 use Rattle.spe_crash.specs.Rollback.{RollbackKeeps, RollbackIsCovered, RollbackEmpties, RollbackRestores}
@@ -36,8 +37,8 @@ ok_same found x y a b = let same : found_pages found ≡ x = ap found_pages a in
 
 found_so : (found : Recovered) (content now : Content) (pages : List (List ℕ)) → RecoveredAreHeaded → QuietIsWhole → recovered content ≡ Ok pages
     → HasPages content found.pages → found.page_size ≡ file_page_size content → found.reserved ≡ (recovered_header content).reserved
-    → AreInFile found.pages content now → HasNoJournals now → recovered now ≡ recovered content → IsFound found now pages
-found_so found content now pages headed whole recovers has sized reserved in_file quiet kept =
+    → found.node ≡ node_of (recovered_header content) → AreInFile found.pages content now → HasNoJournals now → recovered now ≡ recovered content → IsFound found now pages
+found_so found content now pages headed whole recovers has sized reserved node in_file quiet kept =
     let same : pages ≡ has.pages = ok_same (recovered content) pages has.pages recovers has.recovers in
     let counted : found.pages ≡ length pages = sym (ap length same ∙ has.counted) in
     let now_recovers : recovered now ≡ Ok pages = kept ∙ recovers in
@@ -51,6 +52,7 @@ found_so found content now pages headed whole recovers has sized reserved in_fil
       legal = before.legal;
       page_size = page_size;
       reserved = ap (λ (h : Header). h.reserved) before.recovered ∙ sym reserved;
+      node = ap node_of before.recovered ∙ sym node;
       held = subst (λ (n : ℕ). map (file_page now) (pages_to n) ≡ pages) counted (ok_same (recovered content) (map (file_page now) (pages_to found.pages)) pages in_file recovers);
       whole = whole now pages now_recovers quiet;
       quiet = quiet;
@@ -58,24 +60,26 @@ found_so found content now pages headed whole recovers has sized reserved in_fil
 
 settled_by : (old new : Option History) (found : Recovered) → RecoveredAreHeaded → QuietIsWhole
     → WhereTold old (λ content. HasPages content found.pages) → WhereTold old (λ content. found.page_size ≡ file_page_size content)
-    → WhereTold old (λ content. found.reserved ≡ (recovered_header content).reserved) → WhereBothTold old new (AreInFile found.pages)
+    → WhereTold old (λ content. found.reserved ≡ (recovered_header content).reserved) → WhereTold old (λ content. found.node ≡ node_of (recovered_header content))
+    → WhereBothTold old new (AreInFile found.pages)
     → WhereTold old (λ content. WhereTold new HasNoJournals) → WhereBothTold old new (λ content now. recovered now ≡ recovered content)
     → WhereBothTold old new (λ content now. (pages : List (List ℕ)) → recovered content ≡ Ok pages → IsFound found now pages)
-settled_by None new found headed whole has sized reserved in_file quiet kept = tt
-settled_by (Some h) None found headed whole has sized reserved in_file quiet kept = tt
-settled_by (Some h) (Some k) found headed whole has sized reserved in_file quiet kept = λ pages recovers.
-    found_so found (present h) (present k) pages headed whole recovers has sized reserved in_file quiet kept
+settled_by None new found headed whole has sized reserved node in_file quiet kept = tt
+settled_by (Some h) None found headed whole has sized reserved node in_file quiet kept = tt
+settled_by (Some h) (Some k) found headed whole has sized reserved node in_file quiet kept = λ pages recovers.
+    found_so found (present h) (present k) pages headed whole recovers has sized reserved node in_file quiet kept
 
 pub left_settled : (old new : Option History) (result : Result Recovered RecoverFault) → RollbackKeeps → RollbackEmpties → RollbackRestores → RecoveredAreHeaded → QuietIsWhole
     → IfOk result (λ found. WhereTold old (λ content. HasPages content found.pages))
     → IfOk result (λ found. WhereTold old (λ content. found.page_size ≡ file_page_size content))
     → IfOk result (λ found. WhereTold old (λ content. found.reserved ≡ (recovered_header content).reserved))
+    → IfOk result (λ found. WhereTold old (λ content. found.node ≡ node_of (recovered_header content)))
     → IfOk result (λ found. Makes old new (λ content. rule_of content found.pages) found.ops)
     → MakesCut old new rollback_of
     → IfOk result (λ found. WhereBothTold old new (λ content now. (pages : List (List ℕ)) → recovered content ≡ Ok pages → IsFound found now pages))
-left_settled old new (Err fault) keeps empties restores headed whole has sized reserved made cut = tt
-left_settled old new (Ok found) keeps empties restores headed whole has sized reserved made cut =
-    settled_by old new found headed whole has sized reserved
+left_settled old new (Err fault) keeps empties restores headed whole has sized reserved node made cut = tt
+left_settled old new (Ok found) keeps empties restores headed whole has sized reserved node made cut =
+    settled_by old new found headed whole has sized reserved node
     (left_restored old new found.pages found.pages found.ops refl restores has made)
     (left_empty old new found.pages found.ops empties has made)
     (left_kept old new keeps cut)

@@ -180,3 +180,9 @@ pub some_made : (told new : Option History) (pages made : ℕ) → WhereTold tol
 unfolding rule_of
 some_made None new pages made some all = tt
 some_made (Some h) new pages made some all = rw (← some) all
+
+pub some_stopped : (told new : Option History) (pages : ℕ) → WhereTold told (λ content. true ≡ any_length content 0 16)
+    → MakesCut told new (λ content. all_of content pages) → MakesCut told new (λ content. rule_of content pages)
+unfolding rule_of
+some_stopped None new pages some cut = tt
+some_stopped (Some h) new pages some cut = rw (← some) cut

@@ -9,6 +9,7 @@ use Rattle.spe_model.specs.Recovery.{file_page_size}
 use Rattle.spe_recover.specs.declared.stop.Stop.{Stop}
 use Rattle.spe_recover.specs.declared.stop.Stop.TheVariants.{Disk, Memory}
 use Rattle.spe_recover.specs.declared.known.Known.{Known}
+use Rattle.spe_recover.specs.Heads.{AreHeads}
 use Rattle.spe_recover.specs.Seen.{IsScanned}
 use Rattle.spe_recover.specs.Survey.{IsSurvey}
 
@@ -31,6 +32,7 @@ IsRefused fault outcome = outcome ≡ Err fault
 pub record IsKnown (content : Content) (known : Known) (outcome : Result (List (List ℕ)) RecoverFault) : Type 0 where
   pub survey : IsSurvey content known.survey outcome
   pub seen : IsScanned content known.survey.page_size known.seen
+  pub heads : AreHeads content known.survey.page_size known.heads
 
 abbrev pub Answers : Content → Result Known RecoverFault → Result (List (List ℕ)) RecoverFault → Type 0
 Answers content (Ok known) outcome = IsKnown content known outcome

@@ -1,5 +1,4 @@
 pub mod Told
-pub mod Front
 pub mod Heads
 pub mod Seen
 pub mod Survey

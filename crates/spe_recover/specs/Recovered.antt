@@ -24,10 +24,6 @@ pub record HasPages (content : Content) (count : ℕ) : Type 0 where
 abbrev pub is_prepared : Header → Bool
 is_prepared h = not (h.first_free == 0) && (h.free_count == 0) && is_size_valid h
 
--- the page that names the free lists
-abbrev pub node_of : Header → Option ℕ
-node_of h = if not (h.first_free == 0) && (h.free_count == 0) then Some h.first_free else None
-
 -- the header is such as is wanted
 abbrev pub is_wanted : Want → Header → Bool
 is_wanted Any h = true
@@ -50,10 +46,9 @@ IsRefusal want refusals.Memory content = Unit {0}
 IsRefusal want refusals.NotPrepared content = IsUnwanted want content
 IsRefusal want fault content = recovered content ≡ Err fault
 
--- a refusal, and no failure
+-- any refusal, want of memory too, but for a failure of the disk
 abbrev pub IsPlain : RecoverFault → Type 0
 IsPlain refusals.Disk = ⊥
-IsPlain refusals.Memory = ⊥
 IsPlain fault = Unit {0}
 
 abbrev pub IsEitherFault : (reads reads_now ops ops_now : ℕ) → RecoverFault → Type 0

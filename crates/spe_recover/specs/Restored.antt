@@ -1,5 +1,5 @@
 -- Pages that are written back, and what stays meanwhile.
-use Rattle.std.specs.Prelude.{◌≡◌, ℕ, ◌≤◌, ◌⊎◌, Bool, ◌&&◌, nat_le, is_some, List, [], ◌∷◌, length, Option, Some, None, Result, IfErr}
+use Rattle.std.specs.Prelude.{◌≡◌, ℕ, ◌≤◌, ◌⊎◌, Bool, ◌&&◌, nat_le, is_some, List, [], ◌∷◌, length, Option, Some, None, Result, IfErr, OnErr}
 use Rattle.std.specs.Ordering.{nat_cmp}
 use Rattle.std.specs.BTreeMap.{BTreeMap, get}
 use Rattle.spe_model.specs.Faults.{Rose}
@@ -32,13 +32,13 @@ pub record Restored (page_size pages : ℕ) (saved : List Saved) (old new : Opti
 
 -- the journals have what they had
 abbrev pub Stays : Option History → Option History → Type 0
-Stays None new = Unit {0}
+Stays None new = new ≡ None
 Stays (Some h) None = ⊥
 Stays (Some h) (Some k) = (id : ℕ) → journal_of (present k) id ≡ journal_of (present h) id
 
 -- the journals from this number on have what they had
 abbrev pub StaysFrom : ℕ → Option History → Option History → Type 0
-StaysFrom id None new = Unit {0}
+StaysFrom id None new = new ≡ None
 StaysFrom id (Some h) None = ⊥
 StaysFrom id (Some h) (Some k) = (i : ℕ) → id ≤ i → journal_of (present k) i ≡ journal_of (present h) i
 
@@ -59,12 +59,18 @@ abbrev pub RestoresPiece : (nonce page_size pages : ℕ) → List ℕ → (old n
 RestoresPiece nonce page_size pages piece old new before now (Some made) = RestoresFirst nonce page_size pages piece old new before now made
 RestoresPiece nonce page_size pages piece old new before now None = RestoresNone nonce page_size piece old new before now
 
+-- two counts of faults never fall, and one has risen where the call failed
+pub record HasEither {X E : Type 0} (reads reads_now ops ops_now : ℕ) (result : Result X E) : Type 0 where
+  pub reads_later : reads ≤ reads_now
+  pub ops_later : ops ≤ ops_now
+  pub failed : OnErr result (Rose reads reads_now ⊎ Rose ops ops_now)
+
 abbrev pub IsEitherOf : (reads reads_now ops ops_now : ℕ) → Stop → Type 0
 IsEitherOf reads reads_now ops ops_now Disk = Rose reads reads_now ⊎ Rose ops ops_now
 IsEitherOf reads reads_now ops ops_now Memory = Unit {0}
 
--- two counts of faults never fall, and one has risen where the disk failed
-pub record HasEither {X : Type 0} (reads reads_now ops ops_now : ℕ) (result : Result X Stop) : Type 0 where
+-- the same, where there may have been no memory
+pub record HasEitherStop {X : Type 0} (reads reads_now ops ops_now : ℕ) (result : Result X Stop) : Type 0 where
   pub reads_later : reads ≤ reads_now
   pub ops_later : ops ≤ ops_now
   pub failed : IfErr result (IsEitherOf reads reads_now ops ops_now)

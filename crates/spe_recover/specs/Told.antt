@@ -16,9 +16,9 @@ abbrev pub WhereBothTold : (old new : Option History) → (Content → Content �
 WhereBothTold old new P = WhereTold old (λ content. WhereTold new (P content))
 
 -- P of the present content and what was answered, unless the reading stopped
-abbrev pub FindsTold : {X : Type 0} → Option History → Result X Stop → (Content → X → Type 0) → Type 0
+abbrev pub FindsTold : {X E : Type 0} → Option History → Result X E → (Content → X → Type 0) → Type 0
 FindsTold told (Ok x) P = WhereTold told (λ content. P content x)
-FindsTold told (Err stop) P = Unit {0}
+FindsTold told (Err e) P = Unit {0}
 
 abbrev pub IsCausedBy : ℕ → ℕ → Stop → Type 0
 IsCausedBy before now Disk = Rose before now

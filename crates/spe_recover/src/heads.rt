@@ -1,16 +1,25 @@
 //! The heads of the journals.
 
-ghost use Rattle.std.specs.Prelude.{◌≡◌, ◌<◌, ◌≤◌, ◌-◌, ℕ, List, min, true, drop, length};
-ghost use Rattle.spe_model.specs.Content.{filled};
+ghost use Rattle.std.specs.Prelude.{◌≡◌, ◌<◌, ◌≤◌, ◌-◌, ℕ, List, Some, min, true, drop, length, slice_get, slice_set};
+ghost use Rattle.spe_model.specs.Content.{Content, filled};
 ghost use Rattle.spe_model.specs.Journal.{hot_records};
 ghost use Rattle.spe_model.specs.Recovery.{journal_of};
 ghost use Rattle.spe_journal.specs.Kind.{kind_of, saved_under};
-ghost use Rattle.spe_recover.specs.Heads.{IsOther};
+ghost use Rattle.spe_recover.specs.Heads.{IsHead, AreHeads, IsOther};
 ghost use Rattle.spe_recover.specs.Told.{FindsTold, HasCause};
 
 use crate::stop::Stop;
 use spe_disk::{Disk, FileNo};
-use spe_journal::{JournalKind, journal_kind};
+use spe_journal::{HEAD_BYTES, JournalKind, journal_kind};
+
+/// What a journal says in front, and how many bytes it has.
+#[derive(Clone, Copy, Debug)]
+pub struct JournalHead {
+    /// What its head says to the database.
+    pub kind: JournalKind,
+    /// How many bytes the journal has.
+    pub length: u64,
+}
 
 /// A journal whose head names another page size than the database.
 #[derive(Clone, Copy, Debug)]
@@ -32,8 +41,8 @@ fn kind_in(head: &[u8], n: usize, page_size: u32) -> JournalKind
     journal_kind(&head[..n], page_size)
 }
 
-/// What a journal says to a database of this page size.
-pub fn read_kind<D: Disk>(disk: &mut D, id: u8, page_size: u32) -> Result<JournalKind, Stop>
+// What a journal says to a database of this page size.
+fn read_kind<D: Disk>(disk: &mut D, id: u8, page_size: u32) -> Result<JournalKind, Stop>
     requires attached { D.attached disk.old ≡ true }
     requires numbered { id < 16 }
     ensures kind { FindsTold (D.told disk.old) result (λ content kind. kind_of page_size (journal_of content id) ≡ kind) }
@@ -43,26 +52,87 @@ pub fn read_kind<D: Disk>(disk: &mut D, id: u8, page_size: u32) -> Result<Journa
     ensures operations { D.op_faults disk.new ≡ D.op_faults disk.old }
     ensures cause { HasCause (D.read_faults disk.old) (D.read_faults disk.new) result }
 {
-    let mut head = [0u8; 512];
+    let mut head = [0u8; HEAD_BYTES];
     let n = disk.read_at(FileNo::Journal(id), 0, &mut head)?;
     Ok(kind_in(&head, n, page_size))
 }
 
-/// The lowest journal whose head names another page size.
-pub fn find_other<D: Disk>(disk: &mut D, page_size: u32) -> Result<Option<OtherSize>, Stop>
+// How many bytes a journal has.
+fn journal_length<D: Disk>(disk: &mut D, id: u8) -> Result<u64, Stop>
     requires attached { D.attached disk.old ≡ true }
-    ensures other { FindsTold (D.told disk.old) result (λ content other. IsOther content page_size other) }
+    requires numbered { id < 16 }
+    ensures length { FindsTold (D.told disk.old) result (λ content n. n ≡ length (journal_of content id)) }
     ensures same { D.told disk.new ≡ D.told disk.old }
     ensures attached { D.attached disk.new ≡ true }
     ensures operations { D.op_faults disk.new ≡ D.op_faults disk.old }
     ensures cause { HasCause (D.read_faults disk.old) (D.read_faults disk.new) result }
 {
+    Ok(disk.length(FileNo::Journal(id))?.unwrap_or(0))
+}
+
+// What a journal says in front, and how many bytes it has.
+fn read_head<D: Disk>(disk: &mut D, id: u8, page_size: u32) -> Result<JournalHead, Stop>
+    requires attached { D.attached disk.old ≡ true }
+    requires numbered { id < 16 }
+    ensures head { FindsTold (D.told disk.old) result (λ content head. IsHead content page_size id head) }
+    ensures same { D.told disk.new ≡ D.told disk.old }
+    ensures attached { D.attached disk.new ≡ true }
+    ensures operations { D.op_faults disk.new ≡ D.op_faults disk.old }
+    ensures cause { HasCause (D.read_faults disk.old) (D.read_faults disk.new) result }
+{
+    let length = journal_length(disk, id)?;
+    let kind = read_kind(disk, id, page_size)?;
+    Ok(JournalHead { kind, length })
+}
+
+// Keeps the head of one journal.
+fn keep_head(heads: &mut [JournalHead; 16], id: u8, head: JournalHead)
+    requires { id < 16 }
+    ensures { heads.new ≡ slice_set heads.old id head }
+{
+    heads[usize::from(id)] = head;
+}
+
+/// What each journal says in front to a database of this page size, and how many bytes it has.
+pub fn read_heads<D: Disk>(disk: &mut D, page_size: u32) -> Result<[JournalHead; 16], Stop>
+    requires attached { D.attached disk.old ≡ true }
+    ensures heads { FindsTold (D.told disk.old) result (λ content heads. AreHeads content page_size heads) }
+    ensures same { D.told disk.new ≡ D.told disk.old }
+    ensures attached { D.attached disk.new ≡ true }
+    ensures operations { D.op_faults disk.new ≡ D.op_faults disk.old }
+    ensures cause { HasCause (D.read_faults disk.old) (D.read_faults disk.new) result }
+{
+    let mut heads = [JournalHead {
+        kind: JournalKind::Cold,
+        length: 0,
+    }; 16];
     let mut id: u8 = 0;
     while id < 16 {
-        if let JournalKind::OtherSize(size) = read_kind(disk, id, page_size)? {
-            return Ok(Some(OtherSize { id, size }));
+        let head = read_head(disk, id, page_size)?;
+        keep_head(&mut heads, id, head);
+        id += 1;
+    }
+    Ok(heads)
+}
+
+/// The head of one journal.
+pub fn head_at(heads: &[JournalHead; 16], id: u8) -> JournalHead
+    requires { id < 16 }
+    ensures { slice_get heads.now id ≡ Some result }
+{
+    heads[usize::from(id)]
+}
+
+/// The lowest journal whose head names another page size.
+pub fn find_other(heads: &[JournalHead; 16]) -> Option<OtherSize>
+    ensures other { (content : Content) (page_size : ℕ) → AreHeads content page_size heads.now → IsOther content page_size result }
+{
+    let mut id: u8 = 0;
+    while id < 16 {
+        if let JournalKind::OtherSize(size) = head_at(heads, id).kind {
+            return Some(OtherSize { id, size });
         }
         id += 1;
     }
-    Ok(None)
+    None
 }

@@ -9,21 +9,21 @@ ghost use Rattle.spe_recover.specs.Known.{IsFront, Answers, HasFault};
 ghost use Rattle.spe_recover.specs.Survey.{IsLimited, sized_outcome};
 ghost use Rattle.spe_recover.specs.Told.{WhereTold, FindsTold, HasCause};
 
-use crate::front::page_size_of;
-use crate::heads::find_other;
+use crate::heads::{JournalHead, find_other, read_heads};
 use crate::scan::scan;
 use crate::seen::Seen;
 use crate::stop::Stop;
 use crate::survey::{Survey, survey_hot};
 use spe_disk::{Disk, FileNo};
-use spe_model::RecoverFault;
+use spe_model::{Header, RecoverFault};
 use std::alloc::Global;
 
-/// What the recovered pages are, and which journals hold which of them.
+/// What the recovered pages are, which journals hold which of them, and the journals' heads.
 #[derive(Debug, Drop)]
 pub struct Known {
     pub survey: Survey,
     pub seen: Seen,
+    pub heads: [JournalHead; 16],
 }
 
 // Fills `front` with the first bytes of the file, and answers how many are there.
@@ -74,16 +74,21 @@ fn survey_sized<D: Disk>(
     ensures operations { D.op_faults disk.new ≡ D.op_faults disk.old }
     ensures cause { HasFault (D.read_faults disk.old) (D.read_faults disk.new) result }
 {
-    if let Some(other) = find_other(disk, page_size)? {
+    let heads = read_heads(disk, page_size)?;
+    if let Some(other) = find_other(&heads) {
         return Err(RecoverFault::JournalPage {
             id: other.id,
             size: other.size,
         });
     }
-    let seen = scan(alloc, disk, page_size)?;
+    let seen = scan(alloc, disk, &heads, page_size)?;
     let size = file_length(disk)?;
     match survey_hot(&seen, front, page_size, size) {
-        Ok(survey) => Ok(Known { survey, seen }),
+        Ok(survey) => Ok(Known {
+            survey,
+            seen,
+            heads,
+        }),
         Err(fault) => Err(fault),
     }
 }
@@ -103,7 +108,7 @@ pub fn find_known<D: Disk>(alloc: Global, disk: &mut D) -> Result<Known, Recover
 {
     let mut front = [0u8; 100];
     let n = read_front(disk, &mut front)?;
-    match page_size_of(&front[..n]) {
+    match Header::read_page_size(&front[..n]) {
         Ok(page_size) => survey_sized(alloc, disk, page_size, &mut front),
         Err(fault) => Err(RecoverFault::Header(fault)),
     }

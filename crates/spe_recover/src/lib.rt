@@ -6,10 +6,10 @@
 #![tactic(auto)]
 
 mod clear;
-mod front;
 mod heads;
 mod known;
 mod note;
+mod piece;
 mod recovery;
 mod restore;
 mod rolled;

@@ -1,17 +1,20 @@
 //! Recovery.
 
 ghost use Rattle.std.specs.Prelude.{◌≡◌, ◌≤◌, true, ℕ, List, Ok, IfOk, IfErr, OnErr};
-ghost use Rattle.spe_model.specs.Header.{is_page_size};
+ghost use Rattle.spe_model.specs.Header.{is_page_size, node_of};
 ghost use Rattle.spe_model.specs.Recovery.{file_page_size, recovered, recovered_header};
 ghost use Rattle.spe_model.specs.Rollback.{rule_of};
 ghost use Rattle.spe_model.specs.Settled.{IsFound, IsWithinLimits, LeavesPages};
 ghost use Rattle.spe_recover.specs.Cuts.{MakesCut};
-ghost use Rattle.spe_recover.specs.Restored.{HasEither};
+ghost use Rattle.spe_recover.specs.declared.stop.Stop.TheVariants.{Memory};
+ghost use Rattle.spe_recover.specs.Heads.{AreHeads};
+ghost use Rattle.spe_recover.specs.Restored.{HasEitherStop};
 ghost use Rattle.spe_recover.specs.Survey.{IsLimited};
 ghost use Rattle.spe_recover.specs.Told.{WhereTold, WhereBothTold};
 ghost use Rattle.spe_recover.specs.Written.{IsReady, Makes};
-ghost use Rattle.spe_recover.specs.Recovered.{HasPages, AreHotBits, HasCauses, IsPlain, IsRefusal, is_prepared, is_wanted, node_of, rollback_of};
+ghost use Rattle.spe_recover.specs.Recovered.{HasPages, AreHotBits, HasCauses, IsPlain, IsRefusal, is_prepared, is_wanted, rollback_of};
 
+use crate::heads::JournalHead;
 use crate::known::{Known, find_known};
 use crate::rolled::find_rolled;
 use crate::seen::Seen;
@@ -40,17 +43,6 @@ fn is_wanted(want: Want, header: &Header) -> bool
     }
 }
 
-// The page that names the free lists.
-fn node_of(header: &Header) -> Option<u32>
-    ensures { result ≡ node_of header.now }
-{
-    if header.first_free != 0 && header.free_count == 0 {
-        Some(header.first_free)
-    } else {
-        None
-    }
-}
-
 // What recovery found and did.
 fn recovered_of(survey: &Survey, rolled: u16, ops: u64) -> Recovered
     ensures page_size { result.page_size ≡ survey.now.page_size }
@@ -64,7 +56,7 @@ fn recovered_of(survey: &Survey, rolled: u16, ops: u64) -> Recovered
         page_size: survey.page_size,
         reserved: survey.header.reserved,
         pages: survey.pages,
-        node: node_of(&survey.header),
+        node: survey.header.node(),
         rolled,
         ops,
     }
@@ -75,6 +67,7 @@ fn roll_back<D: Disk>(
     alloc: Global,
     disk: &mut D,
     survey: &Survey,
+    heads: &[JournalHead; 16],
     holders: &mut BTreeMap<u32, u8>,
 ) -> Result<Recovered, Stop>
     requires attached { D.attached disk.old ≡ true }
@@ -82,6 +75,7 @@ fn roll_back<D: Disk>(
     requires high { survey.now.page_size ≤ 65536 }
     requires power { is_page_size survey.now.page_size ≡ true }
     requires limits { IsLimited survey.now }
+    requires heads { WhereTold (D.told disk.old) (λ content. AreHeads content survey.now.page_size heads.now) }
     requires ready { WhereTold (D.told disk.old) (IsReady survey.now holders.old) }
     ensures limits { IfOk result IsWithinLimits }
     ensures page_size { IfOk result (λ found. found.page_size ≡ survey.now.page_size) }
@@ -91,11 +85,12 @@ fn roll_back<D: Disk>(
     ensures rolled { IfOk result (λ found. WhereTold (D.told disk.old) (λ content. AreHotBits content found.rolled)) }
     ensures made { IfOk result (λ found. Makes (D.told disk.old) (D.told disk.new) (λ content. rule_of content survey.now.pages) found.ops) }
     ensures stopped { OnErr result (MakesCut (D.told disk.old) (D.told disk.new) (λ content. rule_of content survey.now.pages)) }
+    ensures untouched { IfErr result (λ stop. stop ≡ Memory → D.told disk.new ≡ D.told disk.old) }
     ensures attached { D.attached disk.new ≡ true }
-    ensures cause { HasEither (D.read_faults disk.old) (D.read_faults disk.new) (D.op_faults disk.old) (D.op_faults disk.new) result }
+    ensures cause { HasEitherStop (D.read_faults disk.old) (D.read_faults disk.new) (D.op_faults disk.old) (D.op_faults disk.new) result }
 {
-    let rolled = find_rolled(disk, survey.page_size)?;
-    let ops = write_back(alloc, disk, survey, holders)?;
+    let rolled = find_rolled(heads);
+    let ops = write_back(alloc, disk, survey, heads, holders)?;
     Ok(recovered_of(survey, rolled, ops))
 }
 
@@ -124,12 +119,16 @@ fn recover_files<D: Disk>(
         Ok(known) => known,
         Err(fault) => return Err(fault),
     };
-    let Known { survey, seen } = known;
+    let Known {
+        survey,
+        seen,
+        heads,
+    } = known;
     if !is_wanted(want, &survey.header) {
         return Err(RecoverFault::NotPrepared);
     }
     let Seen { mut holders, .. } = seen;
-    Ok(roll_back(alloc, disk, &survey, &mut holders)?)
+    Ok(roll_back(alloc, disk, &survey, &heads, &mut holders)?)
 }
 
 /// Rolls back all hot journals of a database together, and says what its pages are then.
@@ -143,9 +142,11 @@ fn recover_files<D: Disk>(
 /// Refused is, in this order: a file whose header keeps its page size from being known; a journal
 /// whose head names another page size; a page that two journals hold; any other fault of the
 /// recovered header; more than 2^30 bytes of pages; a page that is neither held by a journal nor
-/// whole in the file; and with `Want::Prepared` a database that is not in server form. A refusal
-/// makes no operation. `Disk` is answered only where the disk failed, and `Memory` where there was
-/// none; after either the call may be made again, since what it did changes no recovered page.
+/// whole in the file; and with `Want::Prepared` a database that is not in server form. No operation is
+/// made where the call is refused, nor where it answers `Memory`, since all memory is taken before the
+/// first one. `Disk` is answered only where the disk failed. What was made then is a beginning of the
+/// operations above, of which the last may be torn, and no recovered page changes by it: the call may
+/// be made again.
 ///
 /// In memory it holds the number of each page that a journal holds, and one record.
 pub fn recover<D: Disk>(alloc: Global, disk: &mut D, want: Want) -> Result<Recovered, RecoverFault>
@@ -165,6 +166,7 @@ pub fn recover<D: Disk>(alloc: Global, disk: &mut D, want: Want) -> Result<Recov
     ensures settled { IfOk result (λ found. WhereBothTold (D.told disk.old) (D.told disk.new) (λ content now. (pages : List (List ℕ)) → recovered content ≡ Ok pages → IsFound found now pages)) }
 
     // What it leaves, whatever it answers and wherever a stop cuts it.
+    ensures cut { MakesCut (D.told disk.old) (D.told disk.new) rollback_of }
     ensures leaves { LeavesPages (D.told disk.old) (D.told disk.new) }
 
     // Why it is refused.

@@ -2,6 +2,7 @@
 
 ghost use Rattle.std.specs.Prelude.{◌≡◌, ◌≢◌, ◌≤◌, ◌*◌, ◌^◌, ◌<◌, ◌+◌, ◌∷◌, [], ℕ, true, length, IfOk, OnOk, OnErr, drop, take};
 ghost use Rattle.std.specs.List.{flat_map};
+ghost use Rattle.spe_model.specs.Faults.{HasCause};
 ghost use Rattle.spe_model.specs.Journal.{Saved, hot_records, numbers_from};
 ghost use Rattle.spe_model.specs.Recovery.{journal_of};
 ghost use Rattle.spe_disk.specs.Told.{Adds};
@@ -9,23 +10,20 @@ ghost use Rattle.spe_journal.specs.Saved.{saved_in};
 ghost use Rattle.spe_model.specs.Rollback.{restores, write_of, without};
 ghost use Rattle.spe_recover.specs.Cuts.{BreaksFirst, MakesCut};
 ghost use Rattle.spe_recover.specs.Restored.{is_due, Restored, RestoresPiece, Stays, HasEither};
-ghost use Rattle.spe_recover.specs.Told.{WhereTold, HasCause};
+ghost use Rattle.spe_recover.specs.Heads.{IsHead, AreHeads};
+ghost use Rattle.spe_recover.specs.Told.{WhereTold};
 
-use crate::heads::read_kind;
-use crate::scan::{journal_length, read_piece};
-use crate::stop::Stop;
-use spe_disk::{Disk, FileNo};
-use spe_journal::{JournalKind, SavedPage, record_at};
+use crate::heads::{JournalHead, head_at};
+use crate::piece::read_piece;
+use spe_disk::{Disk, Failed, FileNo};
+use spe_journal::{HEAD_BYTES, JournalKind, SavedPage, record_at};
 use std::collections::BTreeMap;
-
-// How many bytes of a journal stand before its records.
-const HEAD_BYTES: u64 = 512;
 
 // Where the bytes of page 1 begin that are written back.
 const REST_AT: usize = 24;
 
 // Writes a page back, page 1 but for its first 24 bytes.
-fn write_page<D: Disk>(disk: &mut D, page_size: u32, saved: &SavedPage<'_>) -> Result<(), Stop>
+fn write_page<D: Disk>(disk: &mut D, page_size: u32, saved: &SavedPage<'_>) -> Result<(), Failed>
     requires attached { D.attached disk.old ≡ true }
     requires named { saved.now.page ≢ 0 }
     requires low { 512 ≤ page_size }
@@ -39,7 +37,7 @@ fn write_page<D: Disk>(disk: &mut D, page_size: u32, saved: &SavedPage<'_>) -> R
 {
     if saved.page == 1 {
         let (_, rest) = saved.content.split_at(REST_AT);
-        disk.write_at(FileNo::Database, 24, rest)?;
+        disk.write_at(FileNo::Database, REST_AT as u64, rest)?;
     } else {
         let place = u64::from(saved.page - 1) * u64::from(page_size);
         disk.write_at(FileNo::Database, place, saved.content)?;
@@ -47,10 +45,10 @@ fn write_page<D: Disk>(disk: &mut D, page_size: u32, saved: &SavedPage<'_>) -> R
     Ok(())
 }
 
-// Whether a page is still to be written back, which it is no more afterwards.
-fn close(holders: &mut BTreeMap<u32, u8>, pages: u32, page: u32) -> bool
+// Takes a page from those that are still to be written back, and answers whether it was one of them.
+fn take_due(holders: &mut BTreeMap<u32, u8>, pages: u32, page: u32) -> bool
     ensures result { result ≡ is_due holders.old pages page }
-    ensures closed { (p : ℕ) → is_due holders.new pages p ≡ without (is_due holders.old pages) page p }
+    ensures taken { (p : ℕ) → is_due holders.new pages p ≡ without (is_due holders.old pages) page p }
 {
     page <= pages && holders.remove(&page).is_some()
 }
@@ -62,7 +60,7 @@ fn restore<D: Disk>(
     pages: u32,
     saved: &SavedPage<'_>,
     holders: &mut BTreeMap<u32, u8>,
-) -> Result<u64, Stop>
+) -> Result<u64, Failed>
     requires attached { D.attached disk.old ≡ true }
     requires named { saved.now.page ≢ 0 }
     requires low { 512 ≤ page_size }
@@ -76,7 +74,7 @@ fn restore<D: Disk>(
     ensures readings { D.read_faults disk.new ≡ D.read_faults disk.old }
     ensures cause { HasCause (D.op_faults disk.old) (D.op_faults disk.new) result }
 {
-    if !close(holders, pages, saved.page) {
+    if !take_due(holders, pages, saved.page) {
         return Ok(0);
     }
     write_page(disk, page_size, saved)?;
@@ -92,7 +90,7 @@ fn restore_piece<D: Disk>(
     pages: u32,
     piece: &[u8],
     holders: &mut BTreeMap<u32, u8>,
-) -> Result<Option<u64>, Stop>
+) -> Result<Option<u64>, Failed>
     requires attached { D.attached disk.old ≡ true }
     requires low { 512 ≤ page_size }
     requires high { page_size ≤ 65536 }
@@ -120,7 +118,7 @@ fn restore_records<D: Disk>(
     end: u64,
     buf: &mut [u8],
     holders: &mut BTreeMap<u32, u8>,
-) -> Result<u64, Stop>
+) -> Result<u64, Failed>
     requires attached { D.attached disk.old ≡ true }
     requires numbered { id < 16 }
     requires low { 512 ≤ page_size }
@@ -138,8 +136,8 @@ fn restore_records<D: Disk>(
 {
     let size = u64::from(page_size) + 8;
     let mut made: u64 = 0;
-    let mut at = HEAD_BYTES;
-    let mut left = end.saturating_sub(HEAD_BYTES);
+    let mut at = HEAD_BYTES as u64;
+    let mut left = end.saturating_sub(HEAD_BYTES as u64);
     while left >= size {
         read_piece(disk, id, at, buf)?;
         match restore_piece(disk, nonce, page_size, pages, buf, holders)? {
@@ -157,13 +155,15 @@ fn restore_records<D: Disk>(
 fn restore_journal<D: Disk>(
     disk: &mut D,
     id: u8,
+    head: &JournalHead,
     page_size: u32,
     pages: u32,
     buf: &mut [u8],
     holders: &mut BTreeMap<u32, u8>,
-) -> Result<u64, Stop>
+) -> Result<u64, Failed>
     requires attached { D.attached disk.old ≡ true }
     requires numbered { id < 16 }
+    requires head { WhereTold (D.told disk.old) (λ content. IsHead content page_size id head.now) }
     requires low { 512 ≤ page_size }
     requires high { page_size ≤ 65536 }
     requires page { length buf.old ≡ page_size + 8 }
@@ -176,10 +176,9 @@ fn restore_journal<D: Disk>(
     ensures attached { D.attached disk.new ≡ true }
     ensures cause { HasEither (D.read_faults disk.old) (D.read_faults disk.new) (D.op_faults disk.old) (D.op_faults disk.new) result }
 {
-    match read_kind(disk, id, page_size)? {
+    match head.kind {
         JournalKind::Hot { nonce } => {
-            let end = journal_length(disk, id)?;
-            restore_records(disk, id, nonce, page_size, pages, end, buf, holders)
+            restore_records(disk, id, nonce, page_size, pages, head.length, buf, holders)
         }
         JournalKind::Cold => Ok(0),
         JournalKind::OtherSize(_) => Ok(0),
@@ -190,12 +189,14 @@ fn restore_journal<D: Disk>(
 /// and answers how many operations that took.
 pub fn restore_all<D: Disk>(
     disk: &mut D,
+    heads: &[JournalHead; 16],
     page_size: u32,
     pages: u32,
     buf: &mut [u8],
     holders: &mut BTreeMap<u32, u8>,
-) -> Result<u64, Stop>
+) -> Result<u64, Failed>
     requires attached { D.attached disk.old ≡ true }
+    requires heads { WhereTold (D.told disk.old) (λ content. AreHeads content page_size heads.now) }
     requires low { 512 ≤ page_size }
     requires high { page_size ≤ 65536 }
     requires page { length buf.old ≡ page_size + 8 }
@@ -210,7 +211,8 @@ pub fn restore_all<D: Disk>(
     let mut made: u64 = 0;
     let mut id: u8 = 0;
     while id < 16 {
-        made += restore_journal(disk, id, page_size, pages, buf, holders)?;
+        let head = head_at(heads, id);
+        made += restore_journal(disk, id, &head, page_size, pages, buf, holders)?;
         id += 1;
     }
     Ok(made)

@@ -5,33 +5,17 @@ ghost use Rattle.spe_model.specs.Journal.{hot_records};
 ghost use Rattle.spe_model.specs.Recovery.{journal_of};
 ghost use Rattle.spe_journal.specs.Saved.{saved_in};
 ghost use Rattle.spe_recover.specs.Seen.{Notes, NotesPiece, IsScanned, entries_of, entries_from};
+ghost use Rattle.spe_recover.specs.Heads.{IsHead, AreHeads};
 ghost use Rattle.spe_recover.specs.Told.{WhereTold, FindsTold, HasCause};
 
-use crate::heads::read_kind;
+use crate::heads::{JournalHead, head_at};
 use crate::note::{note, nothing_seen};
+use crate::piece::read_piece;
 use crate::seen::Seen;
 use crate::stop::Stop;
-use spe_disk::{Disk, FileNo};
-use spe_journal::{JournalKind, record_at};
+use spe_disk::Disk;
+use spe_journal::{HEAD_BYTES, JournalKind, record_at};
 use std::alloc::{AllocError, Global};
-
-// How many bytes of a journal stand before its records.
-const HEAD_BYTES: u64 = 512;
-
-/// Fills `buf` with the bytes of a journal from byte `at` on.
-pub fn read_piece<D: Disk>(disk: &mut D, id: u8, at: u64, buf: &mut [u8]) -> Result<(), Stop>
-    requires attached { D.attached disk.old ≡ true }
-    requires numbered { id < 16 }
-    ensures piece { FindsTold (D.told disk.old) result (λ content x.
-        at + length buf.old ≤ length (journal_of content id) → buf.new ≡ take (length buf.old) (drop at (journal_of content id))) }
-    ensures same { D.told disk.new ≡ D.told disk.old }
-    ensures attached { D.attached disk.new ≡ true }
-    ensures operations { D.op_faults disk.new ≡ D.op_faults disk.old }
-    ensures cause { HasCause (D.read_faults disk.old) (D.read_faults disk.new) result }
-{
-    let _ = disk.read_at(FileNo::Journal(id), at, buf)?;
-    Ok(())
-}
 
 // Keeps what a piece of a journal says, and answers whether it is a record.
 fn note_piece(
@@ -77,8 +61,8 @@ fn scan_records<D: Disk>(
     ensures cause { HasCause (D.read_faults disk.old) (D.read_faults disk.new) result }
 {
     let size = u64::from(page_size) + 8;
-    let mut at = HEAD_BYTES;
-    let mut left = end.saturating_sub(HEAD_BYTES);
+    let mut at = HEAD_BYTES as u64;
+    let mut left = end.saturating_sub(HEAD_BYTES as u64);
     while left >= size {
         read_piece(disk, id, at, buf)?;
         if !note_piece(seen, id, nonce, page_size, buf)? {
@@ -90,29 +74,18 @@ fn scan_records<D: Disk>(
     Ok(())
 }
 
-/// How many bytes a journal has.
-pub fn journal_length<D: Disk>(disk: &mut D, id: u8) -> Result<u64, Stop>
-    requires attached { D.attached disk.old ≡ true }
-    requires numbered { id < 16 }
-    ensures length { FindsTold (D.told disk.old) result (λ content n. n ≡ length (journal_of content id)) }
-    ensures same { D.told disk.new ≡ D.told disk.old }
-    ensures attached { D.attached disk.new ≡ true }
-    ensures operations { D.op_faults disk.new ≡ D.op_faults disk.old }
-    ensures cause { HasCause (D.read_faults disk.old) (D.read_faults disk.new) result }
-{
-    Ok(disk.length(FileNo::Journal(id))?.unwrap_or(0))
-}
-
 // Keeps what the hot records of a journal say.
 fn scan_journal<D: Disk>(
     disk: &mut D,
     id: u8,
+    head: &JournalHead,
     page_size: u32,
     buf: &mut [u8],
     seen: &mut Seen,
 ) -> Result<(), Stop>
     requires attached { D.attached disk.old ≡ true }
     requires numbered { id < 16 }
+    requires head { WhereTold (D.told disk.old) (λ content. IsHead content page_size id head.now) }
     requires low { 512 ≤ page_size }
     requires high { page_size ≤ 65536 }
     requires page { length buf.old ≡ page_size + 8 }
@@ -122,10 +95,9 @@ fn scan_journal<D: Disk>(
     ensures operations { D.op_faults disk.new ≡ D.op_faults disk.old }
     ensures cause { HasCause (D.read_faults disk.old) (D.read_faults disk.new) result }
 {
-    match read_kind(disk, id, page_size)? {
+    match head.kind {
         JournalKind::Hot { nonce } => {
-            let end = journal_length(disk, id)?;
-            scan_records(disk, id, nonce, page_size, end, buf, seen)
+            scan_records(disk, id, nonce, page_size, head.length, buf, seen)
         }
         JournalKind::Cold => Ok(()),
         JournalKind::OtherSize(_) => Ok(()),
@@ -135,11 +107,13 @@ fn scan_journal<D: Disk>(
 // Keeps what the hot records of all journals say.
 fn scan_all<D: Disk>(
     disk: &mut D,
+    heads: &[JournalHead; 16],
     page_size: u32,
     buf: &mut [u8],
     seen: &mut Seen,
 ) -> Result<(), Stop>
     requires attached { D.attached disk.old ≡ true }
+    requires heads { WhereTold (D.told disk.old) (λ content. AreHeads content page_size heads.now) }
     requires low { 512 ≤ page_size }
     requires high { page_size ≤ 65536 }
     requires page { length buf.old ≡ page_size + 8 }
@@ -151,15 +125,22 @@ fn scan_all<D: Disk>(
 {
     let mut id: u8 = 0;
     while id < 16 {
-        scan_journal(disk, id, page_size, buf, seen)?;
+        let head = head_at(heads, id);
+        scan_journal(disk, id, &head, page_size, buf, seen)?;
         id += 1;
     }
     Ok(())
 }
 
 /// What the hot records of all journals say, read through one buffer of a record's size.
-pub fn scan<D: Disk>(alloc: Global, disk: &mut D, page_size: u32) -> Result<Seen, Stop>
+pub fn scan<D: Disk>(
+    alloc: Global,
+    disk: &mut D,
+    heads: &[JournalHead; 16],
+    page_size: u32,
+) -> Result<Seen, Stop>
     requires attached { D.attached disk.old ≡ true }
+    requires heads { WhereTold (D.told disk.old) (λ content. AreHeads content page_size heads.now) }
     requires low { 512 ≤ page_size }
     requires high { page_size ≤ 65536 }
     ensures seen { FindsTold (D.told disk.old) result (λ content seen. IsScanned content page_size seen) }
@@ -170,6 +151,6 @@ pub fn scan<D: Disk>(alloc: Global, disk: &mut D, page_size: u32) -> Result<Seen
 {
     let mut buf = vec![in alloc; 0u8; page_size as usize + 8]?;
     let mut seen = nothing_seen(alloc);
-    scan_all(disk, page_size, &mut buf, &mut seen)?;
+    scan_all(disk, heads, page_size, &mut buf, &mut seen)?;
     Ok(seen)
 }

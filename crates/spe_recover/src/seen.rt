@@ -1,10 +1,5 @@
 //! What is kept of the hot records that were read.
 
-ghost use Rattle.std.specs.Prelude.{◌≡◌, ◌≤◌, [], ◌∷◌, ℕ, length, None, take, drop};
-ghost use Rattle.std.specs.Option.{option_map};
-
-use crate::stop::Stop;
-use std::alloc::Global;
 use std::collections::BTreeMap;
 
 /// A page that two journals hold.

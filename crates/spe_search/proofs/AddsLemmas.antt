@@ -12,7 +12,7 @@ use Rattle.spe_space.specs.Calls.{Reads, sight}
 use Rattle.spe_space.specs.declared.pages.Pages.{Ghosts}
 use Rattle.spe_format.specs.View.{Shown, shown_at, shown_of}
 use Rattle.spe_search.specs.Found.{used_of}
-use Rattle.spe_search.specs.Range.{AddsOfLook, AddsOfVisit, AddsOfRange, touched_pages, HasWalked}
+use Rattle.spe_search.specs.Range.{AddsOfLook, AddsOfVisit, AddsOfRange, touched_pages, IsLinkAt, IsOverflowBetween, HasWalked}
 
 joined_has : (own : ℕ → List ℕ) (pages : List ℕ) (k child n : ℕ) → k < length pages → get_or pages k child ≡ child → Contains (own child) n → Contains (joined own pages) n
 joined_has own [] k child n within is has = absurd (omega (arith, within))
@@ -32,6 +32,30 @@ child_touched usable pages low high height page child n touches has =
 pub root_touched : (usable : ℕ) (pages : Paging) (low high height page n : ℕ) → n ≡ page → Contains (touched_pages usable pages low high height page) n
 root_touched usable pages low high zero page n same = (0, omega arith, sym same)
 root_touched usable pages low high (suc height) page n same = (0, omega arith, sym same)
+
+-- a page of the chain of a row of a leaf
+pub leaf_over : (usable : ℕ) (pages : Paging) (low high page n : ℕ) → IsLinkAt usable pages page low high n → IsOverflowBetween usable pages low high zero page n
+leaf_over usable pages low high page n at = record {
+  leaf = page;
+  row = at.link.row;
+  inside = root_touched usable pages low high zero page page refl;
+  shown = record { shown = at.shown; is = at.is; has = at.link.is };
+  from = at.link.from;
+  to = at.link.to;
+  link = at.link.link;
+}
+
+pub child_over : (usable : ℕ) (pages : Paging) (low high height page child n : ℕ) → Contains (touched low high (node_cells usable pages page) (node_right usable pages page)) child
+    → IsOverflowBetween usable pages low high height child n → IsOverflowBetween usable pages low high (suc height) page n
+child_over usable pages low high height page child n touches over = record {
+  leaf = over.leaf;
+  row = over.row;
+  inside = child_touched usable pages low high height page child over.leaf touches over.inside;
+  shown = over.shown;
+  from = over.from;
+  to = over.to;
+  link = over.link;
+}
 
 -- a page is got, and looked at
 pub visit_adds : {P : Type 0} (g : Ghosts P) (early mid late : P) (page low high : ℕ) (shown : Shown) → g.used mid ≡ g.used early → g.laid mid ≡ g.laid early
@@ -54,22 +78,14 @@ visit_adds g early mid late page low high shown used laid only legal is look pag
       }))
     ]
 
-no_leaf : TableInterior ≡ TableLeaf → ⊥
+pub no_leaf : TableInterior ≡ TableLeaf → ⊥
 no_leaf e = cc
 
 pub adds_visit : {P : Type 0} (g : Ghosts P) (early late : P) (page low high : ℕ) → AddsOfVisit g early late page low high → AddsOfRange g early late page low high
 adds_visit g early late page low high visit pages agrees zero a b tree n = elim (visit pages agrees n) [
   | inl same ↦ inl same
   | inr (inl own) ↦ inr (inl (root_touched (g.used early) (sight g early pages) low high zero page n own))
-  | inr (inr at) ↦ inr (inr (record {
-    leaf = page;
-    row = at.link.row;
-    inside = root_touched (g.used early) (sight g early pages) low high zero page page refl;
-    shown = record { shown = at.shown; is = at.is; has = at.link.is };
-    from = at.link.from;
-    to = at.link.to;
-    link = at.link.link;
-  }))
+  | inr (inr at) ↦ inr (inr (leaf_over (g.used early) (sight g early pages) low high page n at))
 ]
 adds_visit g early late page low high visit pages agrees (suc height) a b tree n = elim (visit pages agrees n) [
   | inl same ↦ inl same
@@ -95,13 +111,5 @@ adds_child g early now later page low high levels child old mid left rest kept k
         | inr has ↦ inr has
       ])
       | inr (inl has) ↦ inr (inl (child_touched usable view low high height page child n touches has))
-      | inr (inr over) ↦ inr (inr (record {
-        leaf = over.leaf;
-        row = over.row;
-        inside = child_touched usable view low high height page child over.leaf touches over.inside;
-        shown = over.shown;
-        from = over.from;
-        to = over.to;
-        link = over.link;
-      }))
+      | inr (inr over) ↦ inr (inr (child_over usable view low high height page child n touches over))
     ]

@@ -18,9 +18,10 @@ use Rattle.spe_format.specs.View.{Shown, shown_at, shown_of}
 use Rattle.spe_search.specs.declared.last.End.{End}
 use Rattle.spe_search.specs.declared.last.End.TheVariants.{Rows, Children}
 use Rattle.spe_search.specs.Step.{ShowsNoTable}
-use Rattle.spe_search.specs.Found.{used_of, IsFaulty, ShowsChild}
+use Rattle.spe_search.specs.Found.{used_of, IsFaulty, IsReached, ShowsChild}
 use Rattle.spe_search.specs.Last.{last_rowid, last_rank, FindsEnd, FindsLeft, IsEnd, IsLeft, GivesEnd, GivesLeft, ShowsCells, ShowsFewer, IsCutTree, HasCut, LastBelow, NamesPage, HasPageCause, AddsAtEnd}
 use Rattle.spe_search.proofs.PlaceLemmas.{cell_there}
+use Rattle.spe_search.proofs.FoundLemmas.{reached_here, reached_below}
 use Rattle.spe_search.proofs.AddsLemmas.{child_touched, root_touched}
 use Rattle.spe_search.proofs.EndLemmas.{end_tree, end_found, no_rows, fan_cut, under_cut, under_key, under_last, touched_left, touched_right}
 
@@ -227,22 +228,29 @@ left_fault g early now mid later page levels before child place (Corrupt at) fir
       | inr fewer ↦ few_shown (g.used early) (sight g early pages) page before (suc place) (omega (arith, some)) is.cells fewer
     ]
 
-pub left_names : {P : Type 0} (g : Ghosts P) (early now mid later : P) (page levels before child place : ℕ) (f : TreeFault) → Reads g early now → Reads g now mid → Reads g mid later → place < before
+pub end_names : {P : Type 0} (g : Ghosts P) (early late : P) (page levels : ℕ) (f : TreeFault) → 0 < levels → GivesEnd g early late page (Err f) → NamesPage {X = Option ℤ} g early late page levels (Err f)
+end_names g early late page levels (Space f) more given pages agrees = tt
+end_names g early late page levels (Corrupt at) more given pages agrees =
+    let here = given pages agrees in
+    let Met : ℕ → Type 0 = λ n. IsReached (g.used early) (sight g early pages) levels page n × IsFaulty (g.used early) (sight g early pages) n in
+    inl (subst Met (sym here.0) (reached_here (g.used early) (sight g early pages) levels page more, here.1))
+
+pub left_names : {P : Type 0} (g : Ghosts P) (early now mid later : P) (page levels before child place : ℕ) (f : TreeFault) → 0 < levels → Reads g early now → Reads g now mid → Reads g mid later → place < before
     → HasCut g early now page levels before child → GivesLeft g mid later page place (Err f) → NamesPage {X = Option ℤ} g early later page levels (Err f)
-left_names g early now mid later page levels before child place (Space f) first second third some cut given pages agrees = tt
-left_names g early now mid later page levels before child place (Corrupt at) first second third some cut given pages agrees =
+left_names g early now mid later page levels before child place (Space f) more first second third some cut given pages agrees = tt
+left_names g early now mid later page levels before child place (Corrupt at) more first second third some cut given pages agrees =
     let is = cut pages (second.earlier pages (third.earlier pages agrees)) in
     let left = rw (second.used, first.used, second.laid, first.laid) at (given pages agrees) in
-    let Q : ℕ → Type 0 = IsFaulty (g.used early) (sight g early pages) in
+    let Met : ℕ → Type 0 = λ n. IsReached (g.used early) (sight g early pages) levels page n × IsFaulty (g.used early) (sight g early pages) n in
     elim left.1 [
-      | inl faulty ↦ inl (subst Q (sym left.0) faulty)
+      | inl faulty ↦ inl (subst Met (sym left.0) (reached_here (g.used early) (sight g early pages) levels page more, faulty))
       | inr fewer ↦ absurd (few_shown (g.used early) (sight g early pages) page before (suc place) (omega (arith, some)) is.cells fewer)
     ]
 
 below_names : (usable : ℕ) (pages : Paging) (page levels child : ℕ) (f : TreeFault) → ShowsChild usable pages page child
     → HasPageCause {X = Option ℤ} usable pages child levels (Err f) → HasPageCause {X = Option ℤ} usable pages page (suc levels) (Err f)
 below_names usable pages page levels child (Space f) shows cause = tt
-below_names usable pages page levels child (Corrupt at) shows (inl faulty) = inl faulty
+below_names usable pages page levels child (Corrupt at) shows (inl faulty) = inl (reached_below usable pages levels page child at shows faulty.0, faulty.1)
 below_names usable pages page levels child (Corrupt at) shows (inr below) = inr (child, shows, below)
 
 pub cut_names : {P : Type 0} (g : Ghosts P) (early now later : P) (page levels before child : ℕ) (f : TreeFault) → 0 < levels → Reads g early now → Reads g now later

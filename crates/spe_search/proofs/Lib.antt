@@ -7,3 +7,5 @@ pub mod WalkLemmas
 pub mod AddsLemmas
 pub mod EndLemmas
 pub mod LastLemmas
+pub mod MissLemmas
+pub mod TouchedLemmas

@@ -123,7 +123,7 @@ damage_row X Y g early now later page shown i c (Corrupt at) kept is damage page
     let all = rw (kept.used, kept.laid) at (damage pages agrees) in
     inr (c, record { index = i; is = sym is }, all)
 
-both_in : (low k high : ℕ) → (leb low k && leb k high) ≡ true → (low ≤ k) × (k ≤ high)
+pub both_in : (low k high : ℕ) → (leb low k && leb k high) ≡ true → (low ≤ k) × (k ≤ high)
 both_in low k high h = elim (leb_tells low k) [
   | inl from ↦ (elim (leb_tells k high) [
     | inl to ↦ (from.1, to.1)

@@ -17,7 +17,7 @@ use Rattle.spe_model.specs.Tree.{node_at, node_cells, header_end, AreRows, rows_
 use Rattle.spe_model.specs.Range.{between, touched}
 use Rattle.spe_space.specs.declared.fault.TreeFault.{TreeFault}
 use Rattle.spe_space.specs.declared.fault.TreeFault.TheVariants.{Space, Corrupt}
-use Rattle.spe_search.specs.Found.{used_of, IsFaulty}
+use Rattle.spe_search.specs.Found.{used_of}
 use Rattle.spe_search.specs.Range.{Lists, IsVisit, HasLookCause, HasVisitCause}
 
 shown_in : Shown → Result Shown PageFault → Shown
@@ -60,8 +60,5 @@ pub visit_cause : (usable : ℕ) (pages : Paging) (page : ℕ) (shown : Shown) (
     → HasLookCause usable pages page shown result → HasVisitCause usable pages page result
 visit_cause usable pages page shown (Ok v) legal is h = λ k d within. record { shown = shown; is = is; has = h k d within }
 visit_cause usable pages page shown (Err (Space f)) legal is h = tt
-visit_cause usable pages page shown (Err (Corrupt at)) legal is (inl h) =
-    let P : ℕ → Type 0 = IsFaulty usable pages in
-    inl (subst P (sym h.0) (λ p e kind. h.1 p (legal p e) kind))
-visit_cause usable pages page shown (Err (Corrupt at)) legal is (inr h) =
-    inr (record { leaf = page; row = h.0; shown = record { shown = shown; is = is; has = h.1 }; how = h.2 })
+visit_cause usable pages page shown (Err (Corrupt at)) legal is (inl h) = inl (h.0, λ p e kind. h.1 p (legal p e) kind)
+visit_cause usable pages page shown (Err (Corrupt at)) legal is (inr h) = inr (record { row = h.0; shown = record { shown = shown; is = is; has = h.1 }; how = h.2 })

@@ -14,10 +14,10 @@ use Rattle.spe_space.specs.Calls.{Reads, sight}
 use Rattle.spe_space.specs.declared.pages.Pages.{Ghosts}
 use Rattle.spe_space.specs.declared.fault.TreeFault.{TreeFault}
 use Rattle.spe_space.specs.declared.fault.TreeFault.TheVariants.{Space, Corrupt}
-use Rattle.spe_search.specs.Found.{NamesDamage, HasCause}
+use Rattle.spe_search.specs.Found.{NamesDamage, HasCause, IsReached, IsFaulty}
 use Rattle.spe_search.specs.Range.{Visits, VisitDamage, WalksBelow, AreTrees, IsWalked, HasWalked}
 use Rattle.spe_search.proofs.PlaceLemmas.{le_false}
-use Rattle.spe_search.proofs.FoundLemmas.{below_names}
+use Rattle.spe_search.proofs.FoundLemmas.{below_names, reached_here}
 
 and_out : (a b : Bool) → (a ≡ false) ⊎ (b ≡ false) → (a && b) ≡ false
 and_out true b (inl h) = absurd (let e : true ≡ false = h in cc)
@@ -101,9 +101,12 @@ visit_fault g early late page low high levels old new all (Space f) visits pages
 visit_fault g early late page low high levels old new all (Corrupt at) visits pages agrees zero a b under tree = (visits pages agrees).leaf a b tree
 visit_fault g early late page low high levels old new all (Corrupt at) visits pages agrees (suc height) a b under tree = (visits pages agrees).interior height a b tree
 
-pub visit_names : {P : Type 0} (g : Ghosts P) (early late : P) (page levels : ℕ) (f : TreeFault) → VisitDamage g early late page (Err f) → NamesDamage {X = Unit {0}} g early late page levels (Err f)
-visit_names g early late page levels (Space f) damage pages agrees = tt
-visit_names g early late page levels (Corrupt at) damage pages agrees = elim (damage pages agrees) [ inl faulty ↦ inl faulty | inr row ↦ inr (inl row) ]
+pub visit_names : {P : Type 0} (g : Ghosts P) (early late : P) (page levels : ℕ) (f : TreeFault) → 0 < levels → VisitDamage g early late page (Err f) → NamesDamage {X = Unit {0}} g early late page levels (Err f)
+visit_names g early late page levels (Space f) some damage pages agrees = tt
+visit_names g early late page levels (Corrupt at) some damage pages agrees =
+    let here = reached_here (g.used early) (sight g early pages) levels page some in
+    let Met : ℕ → Type 0 = λ n. IsReached (g.used early) (sight g early pages) levels page n × IsFaulty (g.used early) (sight g early pages) n in
+    elim (damage pages agrees) [ inl faulty ↦ inl (subst Met (sym faulty.0) (here, faulty.1)) | inr row ↦ inr (inl (record { leaf = page; reached = here; breaks = row })) ]
 
 -- a child is walked
 pub walked_more : {P : Type 0} (g : Ghosts P) (early now later : P) (page low high levels child : ℕ) (old mid new : List (ℤ × List ℕ)) (left rest : List ℕ)

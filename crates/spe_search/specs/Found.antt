@@ -1,12 +1,11 @@
 -- What a search in a space answers, whatever the pages below the space are, as long as they agree with all that was given.
 use Rattle.std.specs.Prelude.{◌≡◌, ◌⊎◌, ℕ, zero, suc, ℤ, ◌<◌, ◌≤◌, List, ◌++◌, take, Option, Some, Result, Ok, Err}
-use Rattle.std.specs.List.{Contains}
 use Rattle.spe_model.specs.declared.page.Cell.{Cell}
 use Rattle.spe_model.specs.Paging.{Paging, Agrees}
-use Rattle.spe_model.specs.Chain.{IsChain, chain_bytes, IsAmiss, BreaksAt, IsLink}
-use Rattle.spe_model.specs.Tree.{rank, rest_of, header_end, IsTree, IsTableTree, tree_rows, tree_pages, row_at}
+use Rattle.spe_model.specs.Chain.{IsChain, chain_bytes, IsAmiss}
+use Rattle.spe_model.specs.Tree.{rank, rest_of, header_end, IsTree, IsTableTree, tree_rows, row_at}
 use Rattle.spe_space.specs.Calls.{sight}
-use Rattle.spe_space.specs.Found.{Answers}
+use Rattle.spe_space.specs.Found.{Answers, EndsWrong}
 use Rattle.spe_space.specs.declared.pages.Pages.{Ghosts}
 use Rattle.spe_space.specs.declared.fault.TreeFault.{TreeFault}
 use Rattle.spe_space.specs.declared.fault.TreeFault.TheVariants.{Space, Corrupt}
@@ -53,38 +52,35 @@ abbrev pub IsBelow : (usable : ℕ) (pages : Paging) (levels page at : ℕ) → 
 IsBelow usable pages zero page at = at ≡ page
 IsBelow usable pages (suc levels) page at = (child : ℕ) × ShowsChild usable pages page child × IsBelow usable pages levels child at
 
--- the chain of a row goes wrong: the leaf names a first page that is amiss, or a page of the chain a next one
-pub record BreaksRow (usable : ℕ) (pages : Paging) (at : ℕ) : Type 0 where
-  pub leaf : ℕ
+-- a page on this walk: fewer than so many levels below the first
+pub record IsReached (usable : ℕ) (pages : Paging) (levels page at : ℕ) : Type 0 where
+  pub depth : ℕ
+  pub under : depth < levels
+  pub way : IsBelow usable pages depth page at
+
+-- the chain of a row of a leaf goes wrong: the leaf names a first page that is amiss, or a page of the chain a next one
+pub record BreaksLeaf (usable : ℕ) (pages : Paging) (leaf at : ℕ) : Type 0 where
   pub row : Cell
   pub shown : ShowsCell usable pages leaf row
-  pub how : ((at ≡ leaf) × IsAmiss (rest_of row) row.chain) ⊎ BreaksAt usable pages (rest_of row) row.chain at
+  pub how : ((at ≡ leaf) × IsAmiss (rest_of row) row.chain) ⊎ EndsWrong usable pages (rest_of row) row.chain at
+
+-- the same of a leaf on this walk
+pub record BreaksRow (usable : ℕ) (pages : Paging) (levels page at : ℕ) : Type 0 where
+  pub leaf : ℕ
+  pub reached : IsReached usable pages levels page leaf
+  pub breaks : BreaksLeaf usable pages leaf at
 
 -- why a page is called corrupt
 abbrev pub HasCause : {X : Type 0} (usable : ℕ) (pages : Paging) (page levels : ℕ) → Result X TreeFault → Type 0
 HasCause usable pages page levels (Ok found) = Unit {0}
 HasCause usable pages page levels (Err (Space f)) = Unit {0}
-HasCause usable pages page levels (Err (Corrupt at)) = IsFaulty usable pages at ⊎ (BreaksRow usable pages at ⊎ IsBelow usable pages levels page at)
+HasCause usable pages page levels (Err (Corrupt at)) =
+    (IsReached usable pages levels page at × IsFaulty usable pages at) ⊎ (BreaksRow usable pages levels page at ⊎ IsBelow usable pages levels page at)
 
--- Corrupt comes only where that page breaks a rule, or lies below the last level
+-- Corrupt comes only where that page is met and breaks a rule, or lies below the last level
 abbrev pub NamesDamage : {P X : Type 0} (g : Ghosts P) (early late : P) (page levels : ℕ) (result : Result X TreeFault) → Type 0
 NamesDamage g early late page levels result =
     (pages : Paging) → Agrees pages (g.seen late) → HasCause (g.used early) (sight g early pages) page levels result
-
--- a page of the chain of a row that a leaf of the tree shows
-pub record IsOverflow (usable : ℕ) (pages : Paging) (height page at : ℕ) : Type 0 where
-  pub leaf : ℕ
-  pub row : Cell
-  pub inside : Contains (tree_pages usable pages height page) leaf
-  pub shown : ShowsCell usable pages leaf row
-  pub link : IsLink usable pages (rest_of row) row.chain at
-
--- each page that is given for the first time is one of the tree's, or of the chain of one of its rows
-abbrev pub AddsOfTree : {P : Type 0} (g : Ghosts P) (early late : P) (page : ℕ) → Type 0
-AddsOfTree g early late page =
-    (pages : Paging) → Agrees pages (g.seen late) → (height low high : ℕ) → IsTree (g.used early) (sight g early pages) height low high page
-    → (n : ℕ) → (g.seen late n ≡ g.seen early n)
-    ⊎ (Contains (tree_pages (g.used early) (sight g early pages) height page) n ⊎ IsOverflow (g.used early) (sight g early pages) height page n)
 
 abbrev pub IsStep : (usable : ℕ) (pages : Paging) (page : ℕ) (rowid : ℤ) → Result Step TreeFault → Type 0
 IsStep usable pages page rowid (Ok step) = TakesStep (used_of usable pages page) (header_end page) rowid (Ok step)
@@ -105,7 +101,7 @@ GivesWhole g early late found result =
 abbrev pub HasRowBreak : {X : Type 0} (usable : ℕ) (pages : Paging) (page : ℕ) (found : Found) → Result X TreeFault → Type 0
 HasRowBreak usable pages page found (Ok x) = Unit {0}
 HasRowBreak usable pages page found (Err (Space f)) = Unit {0}
-HasRowBreak usable pages page found (Err (Corrupt at)) = ((at ≡ page) × IsAmiss found.rest found.chain) ⊎ BreaksAt usable pages found.rest found.chain at
+HasRowBreak usable pages page found (Err (Corrupt at)) = ((at ≡ page) × IsAmiss found.rest found.chain) ⊎ EndsWrong usable pages found.rest found.chain at
 
 abbrev pub NamesRow : {P X : Type 0} (g : Ghosts P) (early late : P) (page : ℕ) (found : Found) (result : Result X TreeFault) → Type 0
 NamesRow g early late page found result =

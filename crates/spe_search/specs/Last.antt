@@ -1,6 +1,6 @@
 -- What a search for the last row answers, whatever the pages below the space are, as long as they agree with all that was
 -- given.
-use Rattle.std.specs.Prelude.{◌≡◌, ◌⊎◌, ℕ, zero, suc, ℤ, ◌<◌, ◌≤◌, List, map, length, take, Option, Some, None, Result, Ok, Err, slice_index_or}
+use Rattle.std.specs.Prelude.{◌≡◌, ◌⊎◌, ℕ, zero, suc, ℤ, ◌<◌, ◌≤◌, List, map, length, take, Option, Some, None, Result, Ok, Err, IfErr, slice_index_or}
 use Rattle.std.specs.List.{Contains, last_or}
 use Rattle.std.specs.Option.{option_map_or}
 use Rattle.spe_model.specs.declared.page.Kind.TheVariants.{TableLeaf, TableInterior}
@@ -10,7 +10,7 @@ use Rattle.spe_model.specs.Paging.{Paging, Agrees}
 use Rattle.spe_model.specs.Tree.{rank, header_end, AreUnder, IsTree, IsTableTree, fan, tree_rows, node_at, node_cells, node_right}
 use Rattle.spe_model.specs.Range.{touched}
 use Rattle.spe_space.specs.Calls.{sight}
-use Rattle.spe_space.specs.Found.{Answers}
+use Rattle.spe_space.specs.Found.{Answers, OnMissing}
 use Rattle.spe_space.specs.declared.pages.Pages.{Ghosts}
 use Rattle.spe_space.specs.declared.fault.TreeFault.{TreeFault}
 use Rattle.spe_space.specs.declared.fault.TreeFault.TheVariants.{Space, Corrupt}
@@ -18,7 +18,7 @@ use Rattle.spe_format.specs.View.{Shown, shown_at}
 use Rattle.spe_search.specs.declared.last.End.{End}
 use Rattle.spe_search.specs.declared.last.End.TheVariants.{Rows, Children}
 use Rattle.spe_search.specs.Step.{HasHole, ShowsNoTable}
-use Rattle.spe_search.specs.Found.{used_of, IsFaulty, ShowsChild, IsBelow}
+use Rattle.spe_search.specs.Found.{used_of, IsFaulty, ShowsChild, IsBelow, IsReached}
 use Rattle.spe_search.specs.Range.{touched_pages}
 
 -- the rowid of the last row
@@ -45,9 +45,9 @@ LastBelow g early late page levels result =
 abbrev pub HasPageCause : {X : Type 0} (usable : ℕ) (pages : Paging) (page levels : ℕ) → Result X TreeFault → Type 0
 HasPageCause usable pages page levels (Ok found) = Unit {0}
 HasPageCause usable pages page levels (Err (Space f)) = Unit {0}
-HasPageCause usable pages page levels (Err (Corrupt at)) = IsFaulty usable pages at ⊎ IsBelow usable pages levels page at
+HasPageCause usable pages page levels (Err (Corrupt at)) = (IsReached usable pages levels page at × IsFaulty usable pages at) ⊎ IsBelow usable pages levels page at
 
--- Corrupt comes only where that page breaks a rule, or lies below the last level
+-- Corrupt comes only where that page is met and breaks a rule, or lies below the last level
 abbrev pub NamesPage : {P X : Type 0} (g : Ghosts P) (early late : P) (page levels : ℕ) (result : Result X TreeFault) → Type 0
 NamesPage g early late page levels result =
     (pages : Paging) → Agrees pages (g.seen late) → HasPageCause (g.used early) (sight g early pages) page levels result
@@ -66,6 +66,20 @@ AddsAtEnd g early late page levels =
     (pages : Paging) → Agrees pages (g.seen late) → (height a b from to : ℕ) → height < levels → IsTree (g.used early) (sight g early pages) height a b page
     → from ≤ last_rank a (tree_rows (g.used early) (sight g early pages) height page) → b ≤ to
     → (n : ℕ) → (g.seen late n ≡ g.seen early n) ⊎ Contains (touched_pages (g.used early) (sight g early pages) from to height page) n
+
+-- a page that is asked for and is none of the space's is one that such a walk touches
+abbrev pub MissesInLast : {P X : Type 0} (g : Ghosts P) (early late : P) (root : ℕ) (result : Result X TreeFault) → Type 0
+MissesInLast g early late root result =
+    (pages : Paging) → Agrees pages (g.seen late)
+    → (height : ℕ) → IsTableTree (g.used early) (sight g early pages) height root
+    → IfErr result (OnMissing
+    (Contains (touched_pages (g.used early) (sight g early pages) (last_rank 0 (tree_rows (g.used early) (sight g early pages) height root)) 18446744073709551616 height root)))
+
+abbrev pub MissesAtEnd : {P X : Type 0} (g : Ghosts P) (early late : P) (page levels : ℕ) (result : Result X TreeFault) → Type 0
+MissesAtEnd g early late page levels result =
+    (pages : Paging) → Agrees pages (g.seen late) → (height a b from to : ℕ) → height < levels → IsTree (g.used early) (sight g early pages) height a b page
+    → from ≤ last_rank a (tree_rows (g.used early) (sight g early pages) height page) → b ≤ to
+    → IfErr result (OnMissing (Contains (touched_pages (g.used early) (sight g early pages) from to height page)))
 
 abbrev pub last_key : List Cell → Option ℤ
 last_key cells = last_or None (map (λ (c : Cell). c.key) cells)

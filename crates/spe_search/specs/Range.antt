@@ -1,6 +1,6 @@
 -- What a walk over the rows between two rowids answers, whatever the pages below the space are, as long as they agree with
 -- all that was given.
-use Rattle.std.specs.Prelude.{◌≡◌, ◌⊎◌, ℕ, zero, suc, ℤ, ◌<◌, ◌≤◌, List, [], ◌∷◌, ◌++◌, map, drop, Option, Some, None, Result, Ok, Err, All}
+use Rattle.std.specs.Prelude.{◌≡◌, ◌⊎◌, ℕ, zero, suc, ℤ, ◌<◌, ◌≤◌, List, [], ◌∷◌, ◌++◌, map, drop, Option, Some, None, Result, Ok, Err, IfErr, All}
 use Rattle.std.specs.List.{Contains}
 use Rattle.std.specs.declared.vec.Vec.{Vec}
 use Rattle.std.specs.declared.alloc.Global.{Global}
@@ -9,12 +9,12 @@ use Rattle.spe_model.specs.declared.page.Kind.TheVariants.{TableLeaf}
 use Rattle.spe_model.specs.declared.page.Cell.{Cell}
 use Rattle.spe_model.specs.declared.page.PageCells.{PageCells}
 use Rattle.spe_model.specs.Paging.{Paging, Agrees}
-use Rattle.spe_model.specs.Chain.{IsChain, IsAmiss, BreaksAt, IsLink}
-use Rattle.spe_model.specs.Tree.{rank, rest_of, payload_of, AreRows, rows_of, IsTree, IsTableTree, tree_rows, header_end, node_at, node_cells, node_right}
+use Rattle.spe_model.specs.Chain.{IsChain, IsAmiss, IsLink}
+use Rattle.spe_model.specs.Tree.{rank, rest_of, payload_of, AreRows, rows_of, IsTree, IsTableTree, tree_rows, header_end, node_at, node_cells, node_right, tree_pages}
 use Rattle.spe_model.specs.Range.{between, touched, joined}
 use Rattle.spe_format.specs.View.{Shown, shown_at}
-use Rattle.spe_space.specs.Found.{Answers}
-use Rattle.spe_search.specs.Found.{used_of, IsFaulty, BreaksRow, ShowsCell, ShowsChild}
+use Rattle.spe_space.specs.Found.{Answers, EndsWrong, OnMissing}
+use Rattle.spe_search.specs.Found.{used_of, IsFaulty, BreaksLeaf, ShowsCell, ShowsChild}
 use Rattle.spe_search.specs.Step.{ShowsNoTable}
 use Rattle.spe_space.specs.Calls.{sight}
 use Rattle.spe_space.specs.declared.pages.Pages.{Ghosts}
@@ -40,7 +40,7 @@ PushesRows g early late shown low high old new result =
     → Pushes (between low high (rows_of (g.used early) (sight g early pages) cells)) old new result
 
 abbrev pub BreaksCell : (usable : ℕ) (pages : Paging) (page : ℕ) (c : Cell) (at : ℕ) → Type 0
-BreaksCell usable pages page c at = ((at ≡ page) × IsAmiss (rest_of c) c.chain) ⊎ BreaksAt usable pages (rest_of c) c.chain at
+BreaksCell usable pages page c at = ((at ≡ page) × IsAmiss (rest_of c) c.chain) ⊎ EndsWrong usable pages (rest_of c) c.chain at
 
 abbrev pub HasCellBreak : {X : Type 0} (usable : ℕ) (pages : Paging) (page : ℕ) (c : Cell) → Result X TreeFault → Type 0
 HasCellBreak usable pages page c (Ok x) = Unit {0}
@@ -74,6 +74,10 @@ pub record IsLinkOf (usable : ℕ) (pages : Paging) (shown : List (Option Cell))
 abbrev pub AddsOfRows : {P : Type 0} (g : Ghosts P) (early late : P) (shown : List (Option Cell)) (low high : ℕ) → Type 0
 AddsOfRows g early late shown low high =
     (pages : Paging) → Agrees pages (g.seen late) → (n : ℕ) → (g.seen late n ≡ g.seen early n) ⊎ IsLinkOf (g.used early) (sight g early pages) shown low high n
+
+abbrev pub MissesInRows : {P X : Type 0} (g : Ghosts P) (early late : P) (shown : List (Option Cell)) (low high : ℕ) (result : Result X TreeFault) → Type 0
+MissesInRows g early late shown low high result =
+    (pages : Paging) → Agrees pages (g.seen late) → IfErr result (OnMissing (λ at. (0 < at) × IsLinkOf (g.used early) (sight g early pages) shown low high at))
 
 abbrev pub ListsChildren : List (Option Cell) → (right low high : ℕ) → Result (Option (Vec ℕ Global)) AllocError → Type 0
 ListsChildren shown right low high (Err e) = Unit {0}
@@ -122,6 +126,11 @@ AddsOfLook g early late shown low high =
     (pages : Paging) → Agrees pages (g.seen late)
     → (n : ℕ) → (g.seen late n ≡ g.seen early n) ⊎ ((shown.kind ≡ TableLeaf) × IsLinkOf (g.used early) (sight g early pages) shown.cells low high n)
 
+abbrev pub MissesInLook : {P X : Type 0} (g : Ghosts P) (early late : P) (shown : Shown) (low high : ℕ) (result : Result X TreeFault) → Type 0
+MissesInLook g early late shown low high result =
+    (pages : Paging) → Agrees pages (g.seen late)
+    → IfErr result (OnMissing (λ at. (shown.kind ≡ TableLeaf) × (0 < at) × IsLinkOf (g.used early) (sight g early pages) shown.cells low high at))
+
 -- a page of the chain of a row of a leaf
 pub record IsLinkAt (usable : ℕ) (pages : Paging) (page low high n : ℕ) : Type 0 where
   pub shown : Shown
@@ -133,6 +142,11 @@ abbrev pub AddsOfVisit : {P : Type 0} (g : Ghosts P) (early late : P) (page low 
 AddsOfVisit g early late page low high =
     (pages : Paging) → Agrees pages (g.seen late)
     → (n : ℕ) → (g.seen late n ≡ g.seen early n) ⊎ ((n ≡ page) ⊎ IsLinkAt (g.used early) (sight g early pages) page low high n)
+
+abbrev pub MissesInVisit : {P X : Type 0} (g : Ghosts P) (early late : P) (page low high : ℕ) (result : Result X TreeFault) → Type 0
+MissesInVisit g early late page low high result =
+    (pages : Paging) → Agrees pages (g.seen late)
+    → IfErr result (OnMissing (λ at. (at ≡ page) ⊎ ((0 < at) × IsLinkAt (g.used early) (sight g early pages) page low high at)))
 
 -- a page of a tree
 pub record IsVisit (usable : ℕ) (pages : Paging) (page low high : ℕ) (old new : List (ℤ × List ℕ)) (result : Result (Vec ℕ Global) TreeFault) : Type 0 where
@@ -146,7 +160,7 @@ Visits g early late page low high old new result =
 abbrev pub HasVisitCause : (usable : ℕ) (pages : Paging) (page : ℕ) → Result (Vec ℕ Global) TreeFault → Type 0
 HasVisitCause usable pages page (Ok v) = All (ShowsChild usable pages page) v.items
 HasVisitCause usable pages page (Err (Space f)) = Unit {0}
-HasVisitCause usable pages page (Err (Corrupt at)) = IsFaulty usable pages at ⊎ BreaksRow usable pages at
+HasVisitCause usable pages page (Err (Corrupt at)) = ((at ≡ page) × IsFaulty usable pages page) ⊎ BreaksLeaf usable pages page at
 
 abbrev pub VisitDamage : {P : Type 0} (g : Ghosts P) (early late : P) (page : ℕ) (result : Result (Vec ℕ Global) TreeFault) → Type 0
 VisitDamage g early late page result = (pages : Paging) → Agrees pages (g.seen late) → HasVisitCause (g.used early) (sight g early pages) page result
@@ -168,6 +182,11 @@ touched_pages usable pages low high zero page = page ∷ []
 touched_pages usable pages low high (suc height) page =
     page ∷ joined (touched_pages usable pages low high height) (touched low high (node_cells usable pages page) (node_right usable pages page))
 
+-- they are pages of the tree
+abbrev pub TouchesTheTree : Type 0
+TouchesTheTree = (usable : ℕ) (pages : Paging) (low high height page n : ℕ)
+    → Contains (touched_pages usable pages low high height page) n → Contains (tree_pages usable pages height page) n
+
 -- a page of the chain of a row between the two rowids
 pub record IsOverflowBetween (usable : ℕ) (pages : Paging) (low high height page at : ℕ) : Type 0 where
   pub leaf : ℕ
@@ -185,6 +204,13 @@ AddsOfRange g early late page low high =
     (pages : Paging) → Agrees pages (g.seen late) → (height a b : ℕ) → IsTree (g.used early) (sight g early pages) height a b page
     → (n : ℕ) → (g.seen late n ≡ g.seen early n)
     ⊎ (Contains (touched_pages (g.used early) (sight g early pages) low high height page) n ⊎ IsOverflowBetween (g.used early) (sight g early pages) low high height page n)
+
+-- a page that is asked for and is none of the space's is one of those; a chain never asks for page 0
+abbrev pub MissesInRange : {P X : Type 0} (g : Ghosts P) (early late : P) (page low high : ℕ) (result : Result X TreeFault) → Type 0
+MissesInRange g early late page low high result =
+    (pages : Paging) → Agrees pages (g.seen late) → (height a b : ℕ) → IsTree (g.used early) (sight g early pages) height a b page
+    → IfErr result (OnMissing (λ at. Contains (touched_pages (g.used early) (sight g early pages) low high height page) at
+    ⊎ ((0 < at) × IsOverflowBetween (g.used early) (sight g early pages) low high height page at)))
 
 -- some tree stands under each of these pages
 abbrev pub AreTrees : (T : (low high page : ℕ) → Type 0) → List ℕ → Type 0

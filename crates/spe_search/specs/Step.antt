@@ -48,13 +48,13 @@ pub record HasCell (shown : List (Option Cell)) (c : Cell) : Type 0 where
   pub index : ℕ
   pub is : slice_index_or shown index None ≡ Some c
 
-abbrev pub HasFound : List (Option Cell) → Option Found → Type 0
-HasFound shown None = Unit {0}
-HasFound shown (Some found) = (c : Cell) × HasCell shown c × IsFoundIn found c
+abbrev pub HasFound : List (Option Cell) → ℤ → Option Found → Type 0
+HasFound shown rowid None = Unit {0}
+HasFound shown rowid (Some found) = (c : Cell) × HasCell shown c × (c.key ≡ rowid) × IsFoundIn found c
 
 abbrev pub FindsRow : List (Option Cell) → ℤ → Result (Option Found) Flaw → Type 0
 FindsRow shown rowid (Ok found) =
-    HasFound shown found × ((cells : List Cell) → shown ≡ map Some cells → AreSorted cells → IsFound (cell_for rowid cells) found)
+    HasFound shown rowid found × ((cells : List Cell) → shown ≡ map Some cells → AreSorted cells → IsFound (cell_for rowid cells) found)
 FindsRow shown rowid (Err Broken) = HasHole shown
 FindsRow shown rowid (Err Memory) = Unit {0}
 
@@ -74,17 +74,17 @@ Leads page rowid (Row found) = (page.kind ≡ TableLeaf) × IsFound (cell_for ro
 Leads page rowid (Child child) = (page.kind ≡ TableInterior) × (child ≡ child_for (rank rowid) page.cells page.right)
 
 -- the page shows what the step takes
-abbrev pub IsShown : Shown → Step → Type 0
-IsShown shown Missing = Unit {0}
-IsShown shown (Row found) = HasFound shown.cells (Some found)
-IsShown shown (Child child) = HasChild shown.cells shown.right child
+abbrev pub IsShown : Shown → ℤ → Step → Type 0
+IsShown shown rowid Missing = Unit {0}
+IsShown shown rowid (Row found) = HasFound shown.cells rowid (Some found)
+IsShown shown rowid (Child child) = HasChild shown.cells shown.right child
 
 -- no legal page of a table shows this
 abbrev pub ShowsNoTable : Shown → Type 0
 ShowsNoTable shown = (page : PageCells) → shown ≡ shown_of page → (page.kind ≡ TableLeaf) ⊎ (page.kind ≡ TableInterior) → ⊥
 
 abbrev pub Steps : Shown → ℤ → Result Step Flaw → Type 0
-Steps shown rowid (Ok step) = IsShown shown step × ((page : PageCells) → shown ≡ shown_of page → AreSorted page.cells → Leads page rowid step)
+Steps shown rowid (Ok step) = IsShown shown rowid step × ((page : PageCells) → shown ≡ shown_of page → AreSorted page.cells → Leads page rowid step)
 Steps shown rowid (Err Broken) = ShowsNoTable shown
 Steps shown rowid (Err Memory) = Unit {0}
 
@@ -93,10 +93,10 @@ abbrev pub IsNoTable : List ℕ → ℕ → Type 0
 IsNoTable bytes at = (page : PageCells) → page_at bytes at ≡ Ok page → (page.kind ≡ TableLeaf) ⊎ (page.kind ≡ TableInterior) → ⊥
 
 -- some bytes show what the step takes
-abbrev pub Offers : List ℕ → ℕ → Step → Type 0
-Offers bytes at step = (shown : Shown) × (shown_at bytes at ≡ Ok shown) × IsShown shown step
+abbrev pub Offers : List ℕ → ℕ → ℤ → Step → Type 0
+Offers bytes at rowid step = (shown : Shown) × (shown_at bytes at ≡ Ok shown) × IsShown shown rowid step
 
 abbrev pub TakesStep : List ℕ → ℕ → ℤ → Result Step Flaw → Type 0
-TakesStep bytes at rowid (Ok step) = Offers bytes at step × ((page : PageCells) → page_at bytes at ≡ Ok page → AreSorted page.cells → Leads page rowid step)
+TakesStep bytes at rowid (Ok step) = Offers bytes at rowid step × ((page : PageCells) → page_at bytes at ≡ Ok page → AreSorted page.cells → Leads page rowid step)
 TakesStep bytes at rowid (Err Broken) = IsNoTable bytes at
 TakesStep bytes at rowid (Err Memory) = Unit {0}

@@ -1,8 +1,9 @@
 //! The last row.
 
-ghost use Rattle.std.specs.Prelude.{◌≡◌, ◌≢◌, ℕ, None, length};
+ghost use Rattle.std.specs.Prelude.{◌≡◌, ◌≢◌, ℕ, None, length, IfErr};
 ghost use Rattle.spe_space.specs.Calls.{Reads, RefusesTree};
-ghost use Rattle.spe_search.specs.Last.{EndsLeaf, FindsEnd, FindsLeft, GivesEnd, GivesLeft, LastBelow, FindsLast, NamesPage, AddsAtEnd, AddsOfLast};
+ghost use Rattle.spe_space.specs.Found.{OnMissing};
+ghost use Rattle.spe_search.specs.Last.{EndsLeaf, FindsEnd, FindsLeft, GivesEnd, GivesLeft, LastBelow, FindsLast, NamesPage, AddsAtEnd, AddsOfLast, MissesAtEnd, MissesInLast};
 
 use crate::search::header_of;
 use spe_format::PageView;
@@ -65,6 +66,7 @@ fn end_at<S: Pages>(space: &mut S, page: u32, buf: &mut [u8]) -> Result<End, Tre
     requires { length buf.old ≡ S.Pages.size space.old }
     ensures given { GivesEnd S.Pages space.old space.new page result }
     ensures only { (n : ℕ) → n ≢ page → S.Pages.seen space.new n ≡ S.Pages.seen space.old n }
+    ensures page_out { IfErr result (OnMissing (λ at. at ≡ page)) }
     ensures kept { Reads S.Pages space.old space.new }
     ensures refusal { RefusesTree S.Pages space.old space.new result }
 {
@@ -89,6 +91,7 @@ fn left_at<S: Pages>(
     requires { length buf.old ≡ S.Pages.size space.old }
     ensures given { GivesLeft S.Pages space.old space.new page place result }
     ensures only { (n : ℕ) → n ≢ page → S.Pages.seen space.new n ≡ S.Pages.seen space.old n }
+    ensures page_out { IfErr result (OnMissing (λ at. at ≡ page)) }
     ensures kept { Reads S.Pages space.old space.new }
     ensures refusal { RefusesTree S.Pages space.old space.new result }
 {
@@ -115,6 +118,7 @@ fn last_below<S: Pages>(
     ensures found { LastBelow S.Pages space.old space.new page levels result }
     ensures damage { NamesPage S.Pages space.old space.new page levels result }
     ensures adds { AddsAtEnd S.Pages space.old space.new page levels }
+    ensures page_out { MissesAtEnd S.Pages space.old space.new page levels result }
     ensures kept { Reads S.Pages space.old space.new }
     ensures refusal { RefusesTree S.Pages space.old space.new result }
 {
@@ -147,13 +151,14 @@ fn last_below<S: Pages>(
 /// table has no rows.
 ///
 /// One page is got a level, and another child only where all to its right have no rows. Corrupt names
-/// a page that is no legal page of a table, or that would be the tree's 21st level. ("B-tree Pages" in
-/// SQLite's Database File Format.)
+/// a page that is no legal page of a table, or that would be the tree's 21st level. Where the tree
+/// stands, PageOut names one of its pages. ("B-tree Pages" in SQLite's Database File Format.)
 pub fn largest<S: Pages>(alloc: Global, space: &mut S, root: u32) -> Result<Option<i64>, TreeFault>
     requires { S.Pages.refusal space.old ≡ None }
     ensures found { FindsLast S.Pages space.old space.new root result }
     ensures damage { NamesPage S.Pages space.old space.new root 20 result }
     ensures adds { AddsOfLast S.Pages space.old space.new root }
+    ensures page_out { MissesInLast S.Pages space.old space.new root result }
     ensures kept { Reads S.Pages space.old space.new }
     ensures refusal { RefusesTree S.Pages space.old space.new result }
 {

@@ -2,16 +2,18 @@
 //!
 //! A search gets one page a level and halves its cells, of which it reads only those that it looks
 //! at. Its answer holds for all pages that agree with those that were given; Corrupt names a page
-//! with its cause.
+//! with its cause, and PageOut a page that the tree or a row's chain asks for.
 #![tactic(auto)]
 
 mod last;
+mod law;
 mod page;
 mod pairs;
 mod rows;
 mod search;
 
 pub use last::largest;
+pub use law::touches_the_tree;
 pub use pairs::{Pair, Pairs};
 pub use rows::range;
 pub use search::find;

@@ -1,11 +1,12 @@
 //! Rows between two rowids.
 
 ghost use Rattle.std.specs.Prelude.{◌≡◌, ◌≤◌, ◌<◌, ◌⊎◌, ◌≢◌, ℕ, ℤ, List, [], ◌∷◌, ◌++◌, None, IfOk, OnOk, length, nat_le, ◌&&◌};
-ghost use Rattle.spe_model.specs.Tree.{rank};
 ghost use Rattle.spe_format.specs.View.{cell_seen};
 ghost use Rattle.spe_space.specs.Calls.{Reads, RefusesTree};
+ghost use Rattle.spe_space.specs.Found.{MissesInChain};
+ghost use Rattle.spe_model.specs.Tree.{rank, rest_of};
 ghost use Rattle.spe_search.specs.Step.{IsFoundIn};
-ghost use Rattle.spe_search.specs.Range.{PushesRow, PushesRows, RowDamage, RowsDamage, AddsOfRow, AddsOfRows, AddsOfLook, AddsOfVisit, AddsOfRange, ListsChildren, LooksAtLeaf, LooksAtInterior, LookDamage, Visits, VisitDamage, WalksBelow, FindsRange};
+ghost use Rattle.spe_search.specs.Range.{PushesRow, PushesRows, RowDamage, RowsDamage, AddsOfRow, AddsOfRows, AddsOfLook, AddsOfVisit, AddsOfRange, MissesInRows, MissesInLook, MissesInVisit, MissesInRange, ListsChildren, LooksAtLeaf, LooksAtInterior, LookDamage, Visits, VisitDamage, WalksBelow, FindsRange};
 ghost use Rattle.spe_search.specs.Found.{NamesDamage};
 ghost use Rattle.spe_model.specs.declared.page.Kind.TheVariants.{TableLeaf, TableInterior};
 
@@ -47,6 +48,7 @@ fn push_row<S: Pages>(
     ensures rows { PushesRow S.Pages space.old space.new (cell_seen parts.now) out.old out.new result }
     ensures damage { RowDamage S.Pages space.old space.new page (cell_seen parts.now) result }
     ensures adds { AddsOfRow S.Pages space.old space.new (cell_seen parts.now) }
+    ensures page_out { MissesInChain S.Pages space.old space.new (cell_seen parts.now).chain (rest_of (cell_seen parts.now)) result }
     ensures kept { Reads S.Pages space.old space.new }
     ensures refusal { RefusesTree S.Pages space.old space.new result }
 {
@@ -77,6 +79,7 @@ fn push_rows<S: Pages>(
     ensures rows { PushesRows S.Pages space.old space.new view.now.cells low high out.old out.new result }
     ensures damage { RowsDamage S.Pages space.old space.new page view.now.cells result }
     ensures adds { AddsOfRows S.Pages space.old space.new view.now.cells low high }
+    ensures page_out { MissesInRows S.Pages space.old space.new view.now.cells low high result }
     ensures kept { Reads S.Pages space.old space.new }
     ensures refusal { RefusesTree S.Pages space.old space.new result }
 {
@@ -143,6 +146,7 @@ fn look<S: Pages>(
     ensures interior { view.now.kind ≡ TableInterior → LooksAtInterior view.now.cells view.now.right low high out.old out.new result }
     ensures damage { LookDamage S.Pages space.old space.new page view.now result }
     ensures adds { AddsOfLook S.Pages space.old space.new view.now low high }
+    ensures page_out { MissesInLook S.Pages space.old space.new view.now low high result }
     ensures kept { Reads S.Pages space.old space.new }
     ensures refusal { RefusesTree S.Pages space.old space.new result }
 {
@@ -175,6 +179,7 @@ fn visit<S: Pages>(
     ensures visits { Visits S.Pages space.old space.new page low high out.old out.new result }
     ensures damage { VisitDamage S.Pages space.old space.new page result }
     ensures adds { AddsOfVisit S.Pages space.old space.new page low high }
+    ensures page_out { MissesInVisit S.Pages space.old space.new page low high result }
     ensures kept { Reads S.Pages space.old space.new }
     ensures refusal { RefusesTree S.Pages space.old space.new result }
 {
@@ -203,6 +208,7 @@ fn walk<S: Pages>(
     ensures rows { WalksBelow S.Pages space.old space.new page low high levels out.old out.new result }
     ensures damage { NamesDamage S.Pages space.old space.new page levels result }
     ensures adds { AddsOfRange S.Pages space.old space.new page low high }
+    ensures page_out { MissesInRange S.Pages space.old space.new page low high result }
     ensures kept { Reads S.Pages space.old space.new }
     ensures refusal { RefusesTree S.Pages space.old space.new result }
 {
@@ -227,8 +233,8 @@ fn walk<S: Pages>(
 /// The rows with rowids from `low` to `high` of the table whose tree has the page `root` as its root,
 /// in the order of their rowids.
 ///
-/// Only the pages are got that the bounds touch, and the overflow pages of the rows. Corrupt is as of
-/// `find`. ("B-tree Pages" in SQLite's Database File Format.)
+/// Only the pages are got that the bounds touch, and the overflow pages of the rows. Corrupt and
+/// PageOut are as of `find`. ("B-tree Pages" in SQLite's Database File Format.)
 pub fn range<S: Pages>(
     alloc: Global,
     space: &mut S,
@@ -240,6 +246,7 @@ pub fn range<S: Pages>(
     ensures found { FindsRange S.Pages space.old space.new root low high result }
     ensures damage { NamesDamage S.Pages space.old space.new root 20 result }
     ensures adds { AddsOfRange S.Pages space.old space.new root (rank low) (rank high) }
+    ensures page_out { MissesInRange S.Pages space.old space.new root (rank low) (rank high) result }
     ensures kept { Reads S.Pages space.old space.new }
     ensures refusal { RefusesTree S.Pages space.old space.new result }
 {

@@ -1,10 +1,11 @@
 //! Rows by their rowids.
 
-ghost use Rattle.std.specs.Prelude.{◌≡◌, ◌≢◌, ◌≤◌, ◌⊎◌, ℕ, ℤ, None, length};
+ghost use Rattle.std.specs.Prelude.{◌≡◌, ◌≢◌, ◌≤◌, ◌⊎◌, ℕ, ℤ, None, length, IfErr};
 ghost use Rattle.spe_model.specs.Tree.{header_end, rank};
 ghost use Rattle.spe_space.specs.Calls.{Reads, RefusesTree};
-ghost use Rattle.spe_space.specs.Found.{AddsOfChain, ReadsChain};
-ghost use Rattle.spe_search.specs.Found.{GivesStep, GivesWhole, NamesRow, Finds, FindsBelow, NamesDamage, AddsOfTree};
+ghost use Rattle.spe_space.specs.Found.{AddsOfChain, MissesInChain, OnMissing, ReadsChain};
+ghost use Rattle.spe_search.specs.Found.{GivesStep, GivesWhole, NamesRow, Finds, FindsBelow, NamesDamage};
+ghost use Rattle.spe_search.specs.Range.{AddsOfRange, MissesInRange};
 
 use crate::page::{Flaw, Found, Step, step_in};
 use spe_model::Bytes;
@@ -30,6 +31,7 @@ fn step_at<S: Pages>(
     requires { length buf.old ≡ S.Pages.size space.old }
     ensures given { GivesStep S.Pages space.old space.new page rowid result }
     ensures only { (n : ℕ) → n ≢ page → S.Pages.seen space.new n ≡ S.Pages.seen space.old n }
+    ensures page_out { IfErr result (OnMissing (λ at. at ≡ page)) }
     ensures kept { Reads S.Pages space.old space.new }
     ensures refusal { RefusesTree S.Pages space.old space.new result }
 {
@@ -53,6 +55,7 @@ pub fn whole_of<S: Pages>(
     ensures whole { ReadsChain S.Pages space.old space.new found.chain found.rest (λ b. b) found.local result }
     ensures damage { NamesRow S.Pages space.old space.new page found result }
     ensures adds { AddsOfChain S.Pages space.old space.new found.chain found.rest }
+    ensures page_out { MissesInChain S.Pages space.old space.new found.chain found.rest result }
     ensures kept { Reads S.Pages space.old space.new }
     ensures refusal { RefusesTree S.Pages space.old space.new result }
 {
@@ -78,6 +81,7 @@ fn row_of<S: Pages>(
     ensures whole { GivesWhole S.Pages space.old space.new found result }
     ensures damage { NamesRow S.Pages space.old space.new page found result }
     ensures adds { AddsOfChain S.Pages space.old space.new found.chain found.rest }
+    ensures page_out { MissesInChain S.Pages space.old space.new found.chain found.rest result }
     ensures kept { Reads S.Pages space.old space.new }
     ensures refusal { RefusesTree S.Pages space.old space.new result }
 {
@@ -100,7 +104,8 @@ fn descend<S: Pages>(
     requires { length buf.old ≡ S.Pages.size space.old }
     ensures found { FindsBelow S.Pages space.old space.new page rowid levels result }
     ensures damage { NamesDamage S.Pages space.old space.new page levels result }
-    ensures adds { AddsOfTree S.Pages space.old space.new page }
+    ensures adds { AddsOfRange S.Pages space.old space.new page (rank rowid) (rank rowid) }
+    ensures page_out { MissesInRange S.Pages space.old space.new page (rank rowid) (rank rowid) result }
     ensures kept { Reads S.Pages space.old space.new }
     ensures refusal { RefusesTree S.Pages space.old space.new result }
 {
@@ -120,7 +125,8 @@ fn descend<S: Pages>(
 ///
 /// One page is got a level, and then the overflow pages of the row. Corrupt names a page that is no
 /// legal page of a table, whose overflow page number does not go with the bytes left, or that would
-/// be the tree's 21st level. ("B-tree Pages" in SQLite's Database File Format.)
+/// be the tree's 21st level. Where the tree stands, PageOut names one of its pages or of the row's
+/// overflow pages. ("B-tree Pages" in SQLite's Database File Format.)
 pub fn find<S: Pages>(
     alloc: Global,
     space: &mut S,
@@ -130,7 +136,8 @@ pub fn find<S: Pages>(
     requires { S.Pages.refusal space.old ≡ None }
     ensures found { Finds S.Pages space.old space.new root rowid result }
     ensures damage { NamesDamage S.Pages space.old space.new root 20 result }
-    ensures adds { AddsOfTree S.Pages space.old space.new root }
+    ensures adds { AddsOfRange S.Pages space.old space.new root (rank rowid) (rank rowid) }
+    ensures page_out { MissesInRange S.Pages space.old space.new root (rank rowid) (rank rowid) result }
     ensures kept { Reads S.Pages space.old space.new }
     ensures refusal { RefusesTree S.Pages space.old space.new result }
 {

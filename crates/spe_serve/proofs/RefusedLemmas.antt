@@ -19,7 +19,8 @@ use Rattle.spe_serve.specs.declared.stop.Stop.{Stop}
 use Rattle.spe_serve.specs.Ending.{refused_for}
 use Rattle.spe_serve.specs.Reply.{IsAboutRows, reply_of_database, reply_of_recovered}
 use Rattle.spe_serve.specs.Small.{file_pages, small_database}
-use Rattle.spe_serve.specs.Stop.{WhereTold, IsCausedByEither}
+use Rattle.spe_recover.specs.Told.{WhereTold}
+use Rattle.spe_serve.specs.Stop.{IsCausedByEither}
 use Rattle.spe_serve.proofs.SmallLemmas.{small_found}
 
 -- a reason that the files give is the answer

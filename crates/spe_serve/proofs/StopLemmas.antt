@@ -10,9 +10,10 @@ use Rattle.spe_model.specs.Recovery.{recovered}
 use Rattle.spe_model.specs.Settled.{LeavesPages}
 use Rattle.spe_model.specs.Trace.{Operation, History, IsCut, IsTorn, after, made_by, present}
 use Rattle.spe_model.specs.Trace.Operation.{Write, Cut}
-use Rattle.spe_serve.specs.Ending.{AnswersStay}
+use Rattle.spe_serve.specs.Ending.{AnswersStay, Stays}
 use Rattle.spe_serve.specs.Reply.{reply_of_file, reply_of_recovered, rows_reply}
-use Rattle.spe_serve.specs.Words.{third}
+use Rattle.spe_words.specs.declared.command.Command.{Command}
+use Rattle.spe_words.specs.declared.command.Command.TheVariants as commands
 
 get_other : {X : Type 0} (xs : List X) (i j : ℕ) (x : X) → i ≢ j → slice_get (slice_set xs i x) j ≡ slice_get xs j
 get_other [] i j x apart = refl
@@ -97,7 +98,15 @@ answers_stay words None new leaves = tt
 answers_stay words (Some h) new leaves = record {
   made = leaves.made;
   adds = leaves.adds;
-  stays = λ cut is.
-      answer_stays (present h) (after (present h) cut) (third words) (leaves.stops cut is) (after_there cut (present h))
-      (cut_absent leaves.made cut (present h) leaves.covered is);
+  stays = λ c asked. command_stays c;
 }
+  where
+    command_stays : (c : Command) → Stays c (present h) leaves.made
+    command_stays (commands.Rows db table) = λ cut is.
+        answer_stays (present h) (after (present h) cut) table (leaves.stops cut is) (after_there cut (present h))
+        (cut_absent leaves.made cut (present h) leaves.covered is)
+    command_stays (commands.Check db) = λ cut is. refl
+    command_stays (commands.Prepare db lists) = λ cut is. refl
+    command_stays (commands.Release db) = λ cut is. refl
+    command_stays (commands.Run db scripts workers retries slots) = λ cut is. refl
+    command_stays (commands.Work db seed count) = λ cut is. refl

@@ -6,7 +6,7 @@ use Rattle.spe_model.specs.Trace.{History, present}
 use Rattle.spe_model.specs.Database as databases
 use Rattle.spe_serve.specs.declared.reply.Reply.TheVariants as replies
 use Rattle.spe_serve.specs.Reply.{rows_in, reply_of_rows, reply_of_database}
-use Rattle.spe_serve.specs.Stop.{WhereTold}
+use Rattle.spe_recover.specs.Told.{WhereTold}
 
 found_of : (name : List ℕ) (db : Option databases.Database) (found : Option (List databases.Row)) → option_map (rows_in name) db ≡ Some found
     → reply_of_database name db ≡ reply_of_rows found

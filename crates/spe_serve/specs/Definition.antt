@@ -1,8 +1,9 @@
--- The definitions of tables that are understood so far: `CREATE TABLE name(name TYPE, name TYPE)`, where a type is
--- `INTEGER`, `TEXT` or `INTEGER PRIMARY KEY`, the last at most once, and a name is ASCII letters.
+-- The definitions of tables that are understood so far: `CREATE TABLE name(name TYPE, name TYPE)`. A name is ASCII
+-- letters. A type is `INTEGER` or `TEXT`; one column may have `INTEGER PRIMARY KEY` in its place.
+use Rattle.spe_model.specs.Agree.{agree}
 use Rattle.std.specs.Prelude.{ℕ, zero, suc, ◌+◌, ◌≡◌, Bool, true, false, not, ◌&&◌, ◌||◌, ◌==◌, nat_le, nat_lt, List, [], ◌∷◌, ◌++◌, take, drop, length, Option, Some, None, is_some, codes, if◌then◌else◌}
 use Rattle.std.specs.List.{list_any}
-use Rattle.std.specs.Str.{bytes_eq, str_eq_ignore_ascii_case}
+use Rattle.std.specs.Str.{bytes_eq}
 use Rattle.spe_model.specs.declared.table.Affinity.{Affinity}
 use Rattle.spe_model.specs.declared.table.Affinity.TheVariants as affinities
 use Rattle.spe_model.specs.declared.table.Column.{Column}
@@ -22,10 +23,6 @@ is_letter b = (nat_le 65 b && nat_le b 90) || (nat_le 97 b && nat_le b 122)
 abbrev pub letters : List ℕ → ℕ
 letters [] = 0
 letters (b ∷ bs) = if is_letter b then letters bs + 1 else 0
-
--- names agree without regard to ASCII case
-abbrev pub agree : List ℕ → List ℕ → Bool
-agree a b = str_eq_ignore_ascii_case a b
 
 -- the words of the grammar of definitions, which are no names
 unfoldable pub is_reserved : List ℕ → Bool

@@ -1,8 +1,11 @@
 -- How a run of the program ends: what it printed, and its status.
 use Rattle.std.specs.Prelude.{◌≡◌, ℕ, ◌⊎◌, List, Option, Some, None, Result, Ok, Err, codes}
+use Rattle.spe_model.specs.Content.{Content}
 use Rattle.spe_model.specs.Trace.{Operation, History, IsCut, after, present}
 use Rattle.spe_disk.specs.Told.{Adds}
 use Rattle.spe_disk.specs.Sink.{Appends, AppendsFront}
+use Rattle.spe_words.specs.declared.command.Command.{Command}
+use Rattle.spe_words.specs.Grammar.{AskFor}
 use Rattle.spe_serve.specs.declared.reply.Reply.{Reply}
 use Rattle.spe_model.specs.declared.recovery.RecoverFault.{RecoverFault}
 use Rattle.spe_model.specs.declared.recovery.RecoverFault.TheVariants as refusals
@@ -11,17 +14,28 @@ use Rattle.spe_serve.specs.declared.stop.Stop.{Stop}
 use Rattle.spe_serve.specs.declared.stop.Stop.TheVariants as stops
 use Rattle.spe_serve.specs.declared.outcome.Outcome.{Outcome}
 use Rattle.spe_serve.specs.declared.outcome.Outcome.TheVariants.{Answered, DiskFailed, NoMemory}
-use Rattle.spe_serve.specs.Reply.{IsReply, FitsWords, rows_reply, text_of, status_of, line}
-use Rattle.spe_serve.specs.Words.{third}
+use Rattle.spe_render.specs.Values.{line}
+use Rattle.spe_serve.specs.Reply.{AskForNone, IsAbout, answer_to, text_of, status_of}
 
--- the answer that the content at attaching asks for, where it is told; else one that fits the words
-abbrev pub IsToldReply : List (List ℕ) → Option History → Reply → Type 0
-IsToldReply words None reply = FitsWords words reply
-IsToldReply words (Some h) reply = IsReply words h.first reply
+-- the answer to a command over the content at attaching, where it is told; else one that the command may have
+abbrev pub Answers : Command → Option History → Reply → Type 0
+Answers c None reply = IsAbout c reply
+Answers c (Some h) reply = reply ≡ answer_to c h.first
 
--- An outcome is the answer to the words, or the disk's count of faults has risen, or memory ran out.
+-- An outcome of a command is its answer, or the disk's count of faults has risen, or memory ran out.
+abbrev pub IsOutcomeOf : Command → Option History → Type 0 → Outcome → Type 0
+IsOutcomeOf c told rose (Answered reply) = Answers c told reply
+IsOutcomeOf c told rose DiskFailed = rose
+IsOutcomeOf c told rose NoMemory = Unit {0}
+
+-- the answer to the command that the words ask for, or that they ask for none
+abbrev pub IsReply : List (List ℕ) → Option History → Reply → Type 0
+IsReply words told replies.Words = AskForNone words
+IsReply words told reply = (c : Command) × AskFor words c × Answers c told reply
+
+-- An outcome of words is the answer to them, or the disk's count of faults has risen, or memory ran out.
 abbrev pub IsOutcome : List (List ℕ) → Option History → Type 0 → Outcome → Type 0
-IsOutcome words told rose (Answered reply) = IsToldReply words told reply
+IsOutcome words told rose (Answered reply) = IsReply words told reply
 IsOutcome words told rose DiskFailed = rose
 IsOutcome words told rose NoMemory = Unit {0}
 
@@ -53,19 +67,24 @@ outcome_status NoMemory = 4
 abbrev pub Prints : List ℕ → ℕ → Option (List ℕ) → Option (List ℕ) → Type 0 → ℕ → Type 0
 Prints text ending old new rose status = (Appends old new text × (status ≡ ending)) ⊎ (AppendsFront old new text × rose × (status ≡ 3))
 
+-- an answer was printed, or there was no memory for its text
+abbrev pub PrintsAnswer : Reply → Option (List ℕ) → Option (List ℕ) → Type 0 → ℕ → Type 0
+PrintsAnswer reply old new rose status = Prints (text_of reply) (status_of reply) old new rose status ⊎ Prints (outcome_text NoMemory) 4 old new rose status
+
 -- What was printed is the text of an outcome, and the status is its own.
 abbrev pub Ends : List (List ℕ) → Option History → Type 0 → Option (List ℕ) → Option (List ℕ) → Type 0 → ℕ → Type 0
 Ends words told disk_rose old new sink_rose status =
     (outcome : Outcome) × IsOutcome words told disk_rose outcome × Prints (outcome_text outcome) (outcome_status outcome) old new sink_rose status
 
--- the answer over what a stop leaves of the operations that were added is the answer over the content before
-abbrev pub AnswersStayTold : List (List ℕ) → History → List Operation → Type 0
-AnswersStayTold words h made = (cut : List Operation) → IsCut made cut → rows_reply (after (present h) cut) (third words) ≡ rows_reply (present h) (third words)
+-- the answer to a command over what a stop leaves of these operations is the answer over the content before
+abbrev pub Stays : Command → Content → List Operation → Type 0
+Stays c content made = (cut : List Operation) → IsCut made cut → answer_to c (after content cut) ≡ answer_to c content
 
+-- so it is of the operations that were added, for the command that the words ask for
 pub record AnswerStays (words : List (List ℕ)) (h : History) (new : Option History) : Type 0 where
   pub made : List Operation
   pub adds : Adds (Some h) new made
-  pub stays : AnswersStayTold words h made
+  pub stays : (c : Command) → AskFor words c → Stays c (present h) made
 
 -- the same, where the disk tells what was done
 abbrev pub AnswersStay : List (List ℕ) → Option History → Option History → Type 0

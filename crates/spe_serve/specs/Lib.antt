@@ -1,7 +1,5 @@
 pub mod Miss
-pub mod Words
 pub mod Definition
-pub mod Printed
 pub mod Small
 pub mod Reply
 pub mod Stop

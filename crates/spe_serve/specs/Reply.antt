@@ -4,6 +4,7 @@ use Rattle.std.specs.Fmt.{decimal}
 use Rattle.spe_model.specs.declared.header.HeaderFault.{HeaderFault}
 use Rattle.spe_model.specs.declared.header.HeaderFault.TheVariants as faults
 use Rattle.spe_model.specs.declared.file.FileNo.TheVariants as files
+use Rattle.spe_model.specs.Agree.{agree}
 use Rattle.spe_model.specs.Content.{Content, file_of}
 use Rattle.spe_model.specs.Recovery.{recovered}
 use Rattle.spe_model.specs.declared.recovery.RecoverFault.{RecoverFault}
@@ -11,10 +12,11 @@ use Rattle.spe_model.specs.declared.recovery.RecoverFault.TheVariants as refusal
 use Rattle.spe_model.specs.Database.{Database, Table, Other, Row}
 use Rattle.spe_serve.specs.declared.reply.Reply.{Reply}
 use Rattle.spe_serve.specs.declared.reply.Reply.TheVariants as replies
-use Rattle.spe_serve.specs.Definition.{agree}
-use Rattle.spe_serve.specs.Printed.{lines_of}
+use Rattle.spe_render.specs.Values.{line, table_text}
 use Rattle.spe_serve.specs.Small.{small_of}
-use Rattle.spe_serve.specs.Words.{IsRows, third}
+use Rattle.spe_words.specs.declared.command.Command.{Command}
+use Rattle.spe_words.specs.declared.command.Command.TheVariants as commands
+use Rattle.spe_words.specs.Grammar.{AskFor}
 
 -- the rows of the table of this name
 abbrev pub rows_in : List ℕ → Database → Option (List Row)
@@ -58,15 +60,19 @@ IsAboutRows replies.NotBuilt = Unit {0}
 IsAboutRows replies.NoTable = Unit {0}
 IsAboutRows (replies.Rows rows) = Unit {0}
 
--- the answer to these words over a content
-abbrev pub IsReply : List (List ℕ) → Content → Reply → Type 0
-IsReply words content replies.Words = ¬ IsRows words
-IsReply words content reply = IsRows words × (reply ≡ rows_reply content (third words))
+-- the answer to a command over a content; that it is not built comes before its database is looked at
+abbrev pub answer_to : Command → Content → Reply
+answer_to (commands.Rows db table) content = rows_reply content table
+answer_to _ content = replies.NotBuilt
 
--- an answer to these words over a content that is not told
-abbrev pub FitsWords : List (List ℕ) → Reply → Type 0
-FitsWords words replies.Words = ¬ IsRows words
-FitsWords words reply = IsRows words
+-- an answer that a command may have
+abbrev pub IsAbout : Command → Reply → Type 0
+IsAbout (commands.Rows db table) reply = IsAboutRows reply
+IsAbout _ reply = reply ≡ replies.NotBuilt
+
+-- the words are no command
+abbrev pub AskForNone : List (List ℕ) → Type 0
+AskForNone words = (c : Command) → ¬ AskFor words c
 
 abbrev pub number_of : HeaderFault → ℕ
 number_of faults.Short = 1
@@ -77,10 +83,6 @@ number_of faults.AutoVacuum = 5
 number_of faults.Encoding = 6
 number_of faults.Reserved = 7
 number_of faults.SchemaFormat = 8
-
--- a line
-abbrev pub line : List ℕ → List ℕ
-line text = text ++ 10 ∷ []
 
 -- two numbers with a blank between them
 abbrev pub pair : ℕ → ℕ → List ℕ
@@ -103,7 +105,7 @@ text_of replies.NoDatabase = line (codes "refused no-such-database")
 text_of (replies.Refused fault) = line (codes "refused " ++ reason fault)
 text_of replies.NotBuilt = line (codes "refused not-built")
 text_of replies.NoTable = line (codes "refused no-table")
-text_of (replies.Rows rows) = lines_of rows ++ line (codes "rows " ++ decimal (length rows))
+text_of (replies.Rows rows) = table_text rows
 
 abbrev pub status_of : Reply → ℕ
 status_of (replies.Rows rows) = 0

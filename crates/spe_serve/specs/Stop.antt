@@ -1,8 +1,9 @@
 -- Answers that come from a disk.
 use Rattle.std.specs.Prelude.{◌≡◌, ℕ, ◌≤◌, ◌⊎◌, Option, Some, None, Result, Ok, Err, IfErr}
 use Rattle.spe_model.specs.Content.{Content}
-use Rattle.spe_model.specs.Trace.{History, present}
+use Rattle.spe_model.specs.Trace.{History}
 use Rattle.spe_model.specs.Faults.{Rose}
+use Rattle.spe_recover.specs.Told.{WhereTold}
 use Rattle.spe_serve.specs.declared.miss.Miss.{Miss}
 use Rattle.spe_serve.specs.declared.miss.Miss.TheVariants as misses
 use Rattle.spe_serve.specs.declared.stop.Stop.{Stop}
@@ -11,11 +12,6 @@ use Rattle.spe_serve.specs.declared.stop.Stop.TheVariants.{Disk, Memory, NotBuil
 abbrev pub of_miss : Miss → Stop
 of_miss misses.NotBuilt = NotBuilt
 of_miss misses.Memory = Memory
-
--- P of the present content, where the disk tells it
-abbrev pub WhereTold : Option History → (Content → Type 0) → Type 0
-WhereTold None P = Unit {0}
-WhereTold (Some h) P = P (present h)
 
 abbrev pub Stops : {Y : Type 0} → Stop → Option Y → Type 0
 Stops NotBuilt found = found ≡ None

@@ -5,7 +5,8 @@ ghost use Rattle.std.specs.List.{list_any};
 ghost use Rattle.std.specs.Str.{bytes_eq};
 ghost use Rattle.std.specs.Option.{option_map};
 ghost use Rattle.spe_serve.specs.Miss.{Finds};
-ghost use Rattle.spe_serve.specs.Definition.{after_text, is_letter, letters, agree, is_reserved, name_at, type_at, column_at, columns_at, are_distinct, name_of, joined, definition_of, all_columns, table_at, NextAlias};
+ghost use Rattle.spe_model.specs.Agree.{agree};
+ghost use Rattle.spe_serve.specs.Definition.{after_text, is_letter, letters, is_reserved, name_at, type_at, column_at, columns_at, are_distinct, name_of, joined, definition_of, all_columns, table_at, NextAlias};
 
 use crate::miss::Miss;
 use spe_model::{Affinity, Column, Columns, TableDef, Text};

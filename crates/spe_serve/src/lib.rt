@@ -7,14 +7,12 @@
 mod definition;
 mod miss;
 mod outcome;
-mod printed;
 mod reply;
 mod row;
 mod schema;
 mod serve;
 mod small;
 mod stop;
-mod words;
 
 pub use serve::{Finished, spe};
 pub use spe_model::Words;

@@ -6,10 +6,10 @@ ghost use Rattle.spe_model.specs.Faults.{Rose};
 use crate::reply::Reply;
 use crate::small::small_rows;
 use crate::stop::Stop;
-use crate::words::rows_words;
 use spe_disk::Disk;
-use spe_model::{RecoverFault, Recovered, Rows, Text};
+use spe_model::{RecoverFault, Recovered, TableRows, Text, Words};
 use spe_recover::{Want, recover};
+use spe_words::{Command, WordsFault, read_words};
 use std::alloc::Global;
 
 /// What there is to print.
@@ -28,10 +28,12 @@ ghost use Rattle.spe_model.specs.Recovery.{recovered};
 ghost use Rattle.spe_model.specs.Settled.{IsWithinLimits, LeavesPages};
 ghost use Rattle.spe_serve.specs.Small.{file_pages, small_database};
 ghost use Rattle.spe_serve.specs.Reply.{reply_of_rows, reply_of_database, reply_of_recovered, IsAboutRows};
-ghost use Rattle.spe_serve.specs.Stop.{WhereTold, HasCause, HasCauses};
-ghost use Rattle.spe_serve.specs.Ending.{IsOutcome, outcome_of, refused_for};
+ghost use Rattle.spe_recover.specs.Told.{WhereTold};
+ghost use Rattle.spe_serve.specs.Stop.{HasCause, HasCauses};
+ghost use Rattle.spe_serve.specs.Ending.{IsOutcome, IsOutcomeOf, outcome_of, refused_for};
+ghost use Rattle.spe_words.specs.declared.command.Command.TheVariants as commands;
 
-fn reply_of(found: Option<Rows>) -> Reply
+fn reply_of(found: Option<TableRows>) -> Reply
     ensures rows { result ≡ reply_of_rows found }
     ensures about { IsAboutRows result }
 {
@@ -88,21 +90,53 @@ fn rows_reply<D: Disk>(alloc: Global, disk: &mut D, name: &[u8]) -> Result<Reply
     }
 }
 
+// The outcome of `rows` of a table.
+fn rows_outcome<D: Disk>(alloc: Global, database: &Text, table: &Text, disk: &mut D) -> Outcome
+    requires { D.attached disk.old ≡ false }
+    ensures outcome { IsOutcomeOf (commands.Rows database.now table.now) (D.told disk.old) (Rose (D.read_faults disk.old) (D.read_faults disk.new) ⊎ Rose (D.op_faults disk.old) (D.op_faults disk.new)) result }
+    ensures leaves { LeavesPages (D.told disk.old) (D.told disk.new) }
+    ensures reads_later { D.read_faults disk.old ≤ D.read_faults disk.new }
+    ensures ops_later { D.op_faults disk.old ≤ D.op_faults disk.new }
+{
+    match disk.attach(database.as_str()) {
+        Ok(true) => answered(rows_reply(alloc, disk, table.as_slice())),
+        Ok(false) => Outcome::Answered(Reply::NoDatabase),
+        Err(_) => Outcome::DiskFailed,
+    }
+}
+
+// The outcome of a command.
+#[tactic(auto, using(crate::proofs::RefusedLemmas::leaves_same))]
+fn obey<D: Disk>(alloc: Global, command: &Command, disk: &mut D) -> Outcome
+    requires { D.attached disk.old ≡ false }
+    ensures outcome { IsOutcomeOf command.now (D.told disk.old) (Rose (D.read_faults disk.old) (D.read_faults disk.new) ⊎ Rose (D.op_faults disk.old) (D.op_faults disk.new)) result }
+    ensures leaves { LeavesPages (D.told disk.old) (D.told disk.new) }
+    ensures reads_later { D.read_faults disk.old ≤ D.read_faults disk.new }
+    ensures ops_later { D.op_faults disk.old ≤ D.op_faults disk.new }
+{
+    match command {
+        Command::Rows { db, table } => rows_outcome(alloc, db, table, disk),
+        Command::Check { .. }
+        | Command::Prepare { .. }
+        | Command::Release { .. }
+        | Command::Run { .. }
+        | Command::Work { .. } => Outcome::Answered(Reply::NotBuilt),
+    }
+}
+
 // What there is to print of these words.
-pub fn carry_out<D: Disk>(alloc: Global, words: &[Text], disk: &mut D) -> Outcome
+#[tactic(auto, using(crate::proofs::RefusedLemmas::leaves_same))]
+pub fn carry_out<D: Disk>(alloc: Global, words: &Words, disk: &mut D) -> Outcome
     requires { D.attached disk.old ≡ false }
     ensures outcome { IsOutcome words.now (D.told disk.old) (Rose (D.read_faults disk.old) (D.read_faults disk.new) ⊎ Rose (D.op_faults disk.old) (D.op_faults disk.new)) result }
     ensures leaves { LeavesPages (D.told disk.old) (D.told disk.new) }
     ensures reads_later { D.read_faults disk.old ≤ D.read_faults disk.new }
     ensures ops_later { D.op_faults disk.old ≤ D.op_faults disk.new }
 {
-    let Some((database, table)) = rows_words(words) else {
-        return Outcome::Answered(Reply::Words);
-    };
-    match disk.attach(database.as_str()) {
-        Ok(true) => answered(rows_reply(alloc, disk, table.as_slice())),
-        Ok(false) => Outcome::Answered(Reply::NoDatabase),
-        Err(_) => Outcome::DiskFailed,
+    match read_words(alloc, words) {
+        Ok(command) => obey(alloc, &command, disk),
+        Err(WordsFault::Words) => Outcome::Answered(Reply::Words),
+        Err(WordsFault::Memory) => Outcome::NoMemory,
     }
 }
 

@@ -1,11 +1,10 @@
-//! What the program answers, and its text.
+//! What the program answers, and why files are not recovered, in words.
 
 ghost use Rattle.std.specs.Prelude.{◌≡◌, IfOk, OnOk, ◌++◌, codes};
-ghost use Rattle.spe_serve.specs.Reply.{number_of, text_of, status_of};
+ghost use Rattle.spe_serve.specs.Reply.{number_of};
 
-use crate::printed::put_rows;
 use itoa::Buffer;
-use spe_model::{HeaderFault, RecoverFault, Rows};
+use spe_model::{HeaderFault, RecoverFault, TableRows};
 use std::alloc::{AllocError, Global};
 
 /// An answer.
@@ -22,7 +21,7 @@ pub enum Reply {
     /// The database has no such table.
     NoTable,
     /// The rows of the table, by ascending rowid.
-    Rows(Rows),
+    Rows(TableRows),
 }
 
 fn fault_number(fault: HeaderFault) -> u8
@@ -35,16 +34,6 @@ fn put_number(out: &mut Vec<u8>, number: u64) -> Result<(), AllocError>
     ensures { OnOk result (out.new.items ≡ out.old.items ++ decimal number) }
 {
     out.extend_from_slice(Buffer::new().format(number).as_bytes())
-}
-
-// Adds a line that ends with a number.
-fn put_line(out: &mut Vec<u8>, words: &[u8], number: u64) -> Result<(), AllocError>
-    ensures { OnOk result (out.new.items ≡ out.old.items ++ line (words.now ++ decimal number)) }
-{
-    out.extend_from_slice(words)?;
-    put_number(out, number)?;
-    out.push(b'\n')?;
-    Ok(())
 }
 
 // Adds two numbers with a blank between them.
@@ -88,45 +77,17 @@ fn put_reason(out: &mut Vec<u8>, fault: RecoverFault) -> Result<(), AllocError>
     }
 }
 
-// Adds the line of a refusal.
-fn put_refusal(out: &mut Vec<u8>, fault: RecoverFault) -> Result<(), AllocError>
-    ensures { OnOk result (out.new.items ≡ out.old.items ++ line (codes "refused " ++ reason fault)) }
-{
-    out.extend_from_slice(b"refused ")?;
-    put_reason(out, fault)?;
-    out.push(b'\n')?;
-    Ok(())
-}
-
-/// The text of an answer.
-pub fn text(alloc: Global, reply: &Reply) -> Result<Vec<u8>, AllocError>
-    ensures { IfOk result (λ v. v.items ≡ text_of reply.now) }
+/// The line that says why files are not recovered.
+pub fn refusal(alloc: Global, fault: RecoverFault) -> Result<Vec<u8>, AllocError>
+    ensures { IfOk result (λ v. v.items ≡ line (codes "refused " ++ reason fault)) }
 {
     let mut out = Vec::new(alloc);
-    match reply {
-        Reply::Words => out.extend_from_slice(b"refused words\n")?,
-        Reply::NoDatabase => out.extend_from_slice(b"refused no-such-database\n")?,
-        Reply::Refused(fault) => put_refusal(&mut out, *fault)?,
-        Reply::NotBuilt => out.extend_from_slice(b"refused not-built\n")?,
-        Reply::NoTable => out.extend_from_slice(b"refused no-table\n")?,
-        Reply::Rows(rows) => {
-            put_rows(alloc, &mut out, rows.as_slice())?;
-            put_line(&mut out, b"rows ", rows.as_slice().len() as u64)?;
-        }
-    }
+    out.extend_from_slice(b"refused ")?;
+    put_reason(&mut out, fault)?;
+    out.push(b'\n')?;
     Ok(out)
 }
 
-/// The status that the program ends with.
-pub fn status(reply: &Reply) -> u8
-    ensures { result ≡ status_of reply.now }
-{
-    match reply {
-        Reply::Rows(_) => 0,
-        Reply::Words => 1,
-        Reply::NoDatabase | Reply::Refused(_) | Reply::NotBuilt | Reply::NoTable => 2,
-    }
-}
-
 ghost use Rattle.std.specs.Fmt.{decimal};
-ghost use Rattle.spe_serve.specs.Reply.{line, pair, reason};
+ghost use Rattle.spe_render.specs.Values.{line};
+ghost use Rattle.spe_serve.specs.Reply.{pair, reason};

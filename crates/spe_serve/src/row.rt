@@ -8,7 +8,7 @@ ghost use Rattle.spe_serve.specs.Small.{is_plain, plain_values, leaf_of, map_all
 
 use crate::miss::Miss;
 use spe_format::read_page;
-use spe_model::{Cell, Cells, Kind, Rows, TableDef, Value, Values};
+use spe_model::{Cell, Cells, Kind, TableDef, TableRows, Value, Values};
 use spe_record::decode;
 use std::alloc::{AllocError, Global};
 
@@ -87,7 +87,7 @@ fn row(alloc: Global, table: &TableDef, cell: &Cell) -> Result<(i64, Values), Mi
 }
 
 /// The rows of the cells of a table.
-pub fn rows(alloc: Global, table: &TableDef, cells: &[Cell]) -> Result<Rows, Miss>
+pub fn rows(alloc: Global, table: &TableDef, cells: &[Cell]) -> Result<TableRows, Miss>
     ensures { Finds (λ r. r) result (map_all (row_of table.now) cells.now) }
 {
     let mut found = Vec::new(alloc);
@@ -96,7 +96,7 @@ pub fn rows(alloc: Global, table: &TableDef, cells: &[Cell]) -> Result<Rows, Mis
         found.push(row(alloc, table, cell)?)?;
         left = rest;
     }
-    Ok(Rows::new(found))
+    Ok(TableRows::new(found))
 }
 
 /// The cells of a page that is a table leaf, whose header begins at `at`.

@@ -19,7 +19,8 @@ pub struct Entry {
 }
 
 ghost use Rattle.spe_serve.specs.Miss.{Finds};
-ghost use Rattle.spe_serve.specs.Definition.{agree, are_distinct};
+ghost use Rattle.spe_model.specs.Agree.{agree};
+ghost use Rattle.spe_serve.specs.Definition.{are_distinct};
 ghost use Rattle.spe_serve.specs.Small.{map_all, text_in, number_in, entry_of, entry_name, entry_root, are_different, is_among, are_apart};
 
 // The text at a place.

@@ -3,12 +3,14 @@
 ghost use Rattle.std.specs.Prelude.{◌≡◌, ◌⊎◌, ◌≤◌, [], false};
 ghost use Rattle.spe_model.specs.Faults.{Rose};
 ghost use Rattle.spe_model.specs.Settled.{LeavesPages};
-ghost use Rattle.spe_serve.specs.Ending.{AnswersStay, Ends, Prints, outcome_text, outcome_status};
+ghost use Rattle.spe_render.specs.Values.{table_text};
+ghost use Rattle.spe_serve.specs.Ending.{AnswersStay, Ends, Prints, PrintsAnswer};
 
 use crate::outcome::{Outcome, carry_out};
-use crate::reply::{status, text};
+use crate::reply::{Reply, refusal};
 use spe_disk::{Disk, Gate, Scripts, Sink, put_all};
-use spe_model::{Commits, Words};
+use spe_model::{Commits, TableRows, Words};
+use spe_render::print_table;
 use std::alloc::Global;
 use std::sync::Wait;
 use std::thread::Threads;
@@ -22,6 +24,12 @@ pub struct Finished {
     /// The commits in their order; none for a command that serves no client.
     pub order: Commits,
 }
+
+const DONE: u8 = 0;
+
+const NO_COMMAND: u8 = 1;
+
+const REFUSED: u8 = 2;
 
 const FAULT: u8 = 3;
 
@@ -37,6 +45,34 @@ fn put<W: Sink>(out: &mut W, text: &[u8], status: u8) -> u8
     }
 }
 
+// Puts the rows of a table.
+fn put_rows<W: Sink>(out: &mut W, rows: &TableRows) -> u8
+    ensures prints { Prints (table_text rows.now) 0 (W.taken out.old) (W.taken out.new) (Rose (W.faults out.old) (W.faults out.new)) result }
+{
+    match print_table(rows, out) {
+        Ok(()) => DONE,
+        Err(_) => FAULT,
+    }
+}
+
+// Puts an answer.
+fn put_answer<W: Sink>(alloc: Global, out: &mut W, reply: &Reply) -> u8
+    ensures prints { PrintsAnswer reply.now (W.taken out.old) (W.taken out.new) (Rose (W.faults out.old) (W.faults out.new)) result }
+    ensures fault { result ≡ 3 → Rose (W.faults out.old) (W.faults out.new) }
+{
+    match reply {
+        Reply::Words => put(out, b"refused words\n", NO_COMMAND),
+        Reply::NoDatabase => put(out, b"refused no-such-database\n", REFUSED),
+        Reply::Refused(fault) => match refusal(alloc, *fault) {
+            Ok(text) => put(out, text.as_slice(), REFUSED),
+            Err(_) => put(out, b"memory\n", MEMORY),
+        },
+        Reply::NotBuilt => put(out, b"refused not-built\n", REFUSED),
+        Reply::NoTable => put(out, b"refused no-table\n", REFUSED),
+        Reply::Rows(rows) => put_rows(out, rows),
+    }
+}
+
 // Carries out some words and prints what there is to print.
 fn run<D: Disk, W: Sink>(alloc: Global, words: &Words, disk: &mut D, out: &mut W) -> u8
     requires { D.attached disk.old ≡ false }
@@ -44,11 +80,8 @@ fn run<D: Disk, W: Sink>(alloc: Global, words: &Words, disk: &mut D, out: &mut W
     ensures fault { result ≡ 3 → (Rose (D.read_faults disk.old) (D.read_faults disk.new) ⊎ Rose (D.op_faults disk.old) (D.op_faults disk.new)) ⊎ Rose (W.faults out.old) (W.faults out.new) }
     ensures leaves { LeavesPages (D.told disk.old) (D.told disk.new) }
 {
-    match carry_out(alloc, words.as_slice(), disk) {
-        Outcome::Answered(reply) => match text(alloc, &reply) {
-            Ok(text) => put(out, text.as_slice(), status(&reply)),
-            Err(_) => put(out, b"memory\n", MEMORY),
-        },
+    match carry_out(alloc, words, disk) {
+        Outcome::Answered(reply) => put_answer(alloc, out, &reply),
         Outcome::DiskFailed => put(out, b"fault disk\n", FAULT),
         Outcome::NoMemory => put(out, b"memory\n", MEMORY),
     }
@@ -57,8 +90,8 @@ fn run<D: Disk, W: Sink>(alloc: Global, words: &Words, disk: &mut D, out: &mut W
 /// Does all that the program does with the words of its command line, the program's own name left
 /// out.
 ///
-/// So far the one command is `rows DATABASE TABLE`, which rolls back what hot journals there are and
-/// prints the rows of a table.
+/// So far `rows DATABASE TABLE` is built, which rolls back what hot journals there are and prints the
+/// rows of a table. Other commands are answered as not built, and their database is not looked at.
 pub fn spe<R: Threads + Wait + Sync, D: Disk + Send, C: Scripts, W: Sink, G: Gate + Sync>(
     _rt: &R,
     alloc: Global,

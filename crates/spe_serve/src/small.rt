@@ -9,7 +9,8 @@ ghost use Rattle.spe_model.specs.Settled.{IsWithinLimits};
 ghost use Rattle.spe_serve.specs.Miss.{Finds};
 ghost use Rattle.spe_serve.specs.Small.{file_pages, has_no_free, leaf_cells, object_of, objects_of, entries_of, is_among, small_database};
 ghost use Rattle.spe_serve.specs.Reply.{rows_in};
-ghost use Rattle.spe_serve.specs.Stop.{WhereTold, ReadsTold, HasCause};
+ghost use Rattle.spe_recover.specs.Told.{WhereTold};
+ghost use Rattle.spe_serve.specs.Stop.{ReadsTold, HasCause};
 ghost use Rattle.spe_serve.specs.Kept.{kept};
 
 use crate::definition::agree;
@@ -19,7 +20,7 @@ use crate::schema::{Entry, are_apart, entries};
 use crate::stop::Stop;
 use byteorder::{BigEndian, ByteOrder};
 use spe_disk::{Disk, Failed, FileNo};
-use spe_model::{Recovered, Rows};
+use spe_model::{Recovered, TableRows};
 use std::alloc::Global;
 
 // How many bytes of a page the format uses.
@@ -56,7 +57,7 @@ fn read_table<D: Disk>(
     usable: usize,
     entry: &Entry,
     buf: &mut [u8],
-) -> Result<Rows, Stop>
+) -> Result<TableRows, Stop>
     requires attached { D.attached disk.old ≡ true }
     requires above { 1 ≤ entry.now.root }
     requires below { entry.now.root ≤ 2 ^ 30 }
@@ -75,7 +76,7 @@ fn read_table<D: Disk>(
 }
 
 // What is kept of the rows found so far and those of one table more.
-fn keep(found: Option<Rows>, rows: Rows, is_wanted: bool) -> Option<Rows>
+fn keep(found: Option<TableRows>, rows: TableRows, is_wanted: bool) -> Option<TableRows>
     ensures { result ≡ kept found rows is_wanted }
 {
     match found {
@@ -94,7 +95,7 @@ fn read_tables<D: Disk>(
     name: &[u8],
     buf: &mut [u8],
     count: u64,
-) -> Result<Option<Rows>, Stop>
+) -> Result<Option<TableRows>, Stop>
     requires attached { D.attached disk.old ≡ true }
     requires among { list_all (is_among count) entries.now ≡ true }
     requires few { count ≤ 2 ^ 30 }
@@ -151,7 +152,7 @@ pub fn small_rows<D: Disk>(
     disk: &mut D,
     found: &Recovered,
     name: &[u8],
-) -> Result<Option<Rows>, Stop>
+) -> Result<Option<TableRows>, Stop>
     requires attached { D.attached disk.old ≡ true }
     requires limits { IsWithinLimits found.now }
     ensures rows { ReadsTold (λ rows. rows) (D.told disk.old) result (λ content. option_map (rows_in name.now) (small_database (found.now.page_size - found.now.reserved) found.now.pages (file_pages found.now.page_size content))) }

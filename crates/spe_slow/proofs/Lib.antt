@@ -4,3 +4,8 @@ pub mod RefusedLemmas
 pub mod PushLemmas
 pub mod RowsLemmas
 pub mod StoredLemmas
+pub mod OrderLemmas
+pub mod TablesLemmas
+pub mod AnswersLemmas
+pub mod RowsAnswerLemmas
+pub mod AppliedLemmas

@@ -1,3 +1,5 @@
+pub mod Answers
 pub mod Refused
 pub mod Rows
 pub mod Table
+pub mod Tables

@@ -1,9 +1,12 @@
-//! What statements mean, done plainly: the tests for the refusals that need no rows, the length of a
-//! record, and the rows that a statement shows and writes, each as the definitions in `spe_model` say.
+//! What statements mean, done plainly: `SlowDb` is a database over maps that answers each statement as
+//! the definition `meaning` of `spe_model` says. Its pieces are the tests for the refusals, the length of
+//! a record, and the rows that a statement shows and writes, each as the definitions there say.
 #![tactic(auto)]
 
+mod answers;
 mod assigned;
 mod conditions;
+mod database;
 mod length;
 mod naming;
 mod refused;
@@ -12,6 +15,7 @@ mod stored;
 
 pub use assigned::{by_column, given_rowid, given_to};
 pub use conditions::is_chosen;
+pub use database::SlowDb;
 pub use length::encoded_length;
 pub use naming::meant_by;
 pub use refused::{
@@ -19,4 +23,6 @@ pub use refused::{
     sets_rowid,
 };
 pub use rows::{changed_values, is_too_long, new_values, selected};
-pub use stored::{changed_rows, chosen_count, is_any_too_long, remove_chosen, write_rows};
+pub use stored::{
+    changed_rows, chosen_count, is_any_too_long, put_row, remove_chosen, selected_rows, write_rows,
+};

@@ -98,7 +98,7 @@ fn has_unknown_column(table: &TableDef, statement: &Statement) -> bool
     }
 }
 
-/// Whether a name is neither a column nor a name of the rowid.
+/// Whether one of the names of a statement means nothing in the table.
 #[tactic(auto, unfolding(spe_model::specs::Refusals::has_unknown_name))]
 pub fn has_unknown_name(table: &TableDef, statement: &Statement) -> bool
     ensures { result ≡ has_unknown_name table.now statement.now }
@@ -106,7 +106,7 @@ pub fn has_unknown_name(table: &TableDef, statement: &Statement) -> bool
     has_unknown_column(table, statement) || is_any_cond_unknown(table, conds_of(statement))
 }
 
-/// Whether a condition is on a column that is not the rowid.
+/// Whether one of the conditions speaks of another column than the rowid.
 #[tactic(auto, unfolding(spe_model::specs::Refusals::has_column_condition))]
 pub fn has_column_condition(table: &TableDef, statement: &Statement) -> bool
     ensures { result ≡ has_column_condition table.now statement.now }
@@ -141,7 +141,7 @@ fn has_twice(table: &TableDef, statement: &Statement) -> bool
     false
 }
 
-/// Whether values and columns differ in number, or a column or the rowid is given two.
+/// Whether there are more or fewer values than columns to put them in, or one place gets two of them.
 #[tactic(auto, unfolding(spe_model::specs::Refusals::is_miscounted))]
 pub fn is_miscounted(table: &TableDef, statement: &Statement) -> bool
     ensures { result ≡ is_miscounted table.now statement.now }

@@ -1,5 +1,5 @@
 -- The front of page 1 ("The Database Header" in SQLite's Database File Format), as a space keeps it.
-use Rattle.std.specs.Prelude.{◌≡◌, ◌⊎◌, ℕ, ◌+◌, ◌%◌, List, ◌++◌, take, drop, None, Ok, true}
+use Rattle.std.specs.Prelude.{◌≡◌, ◌⊎◌, ℕ, ◌+◌, ◌%◌, List, ◌++◌, take, drop, Option, None, Ok, true, IsErr}
 use Rattle.byteorder.specs.Endian.{big_bytes}
 use Rattle.spe_model.specs.Big.{u32_at}
 use Rattle.spe_model.specs.Header.{header_of, fields, is_size_valid}
@@ -31,11 +31,15 @@ IsUnknown seen laid = (seen 1 ≡ None) × (laid 1 ≡ None)
 abbrev pub KeepsFront : (front bytes : List ℕ) → Type 0
 KeepsFront front bytes = (take 24 bytes ≡ take 24 front) × (take 4 (drop 28 bytes) ≡ take 4 (drop 28 front))
 
--- bytes with a legal header, whose page count is valid and this number
-abbrev pub IsFront : ℕ → List ℕ → Type 0
-IsFront count bytes = (header_of bytes ≡ Ok (fields bytes)) × (is_size_valid (fields bytes) ≡ true) × (u32_at bytes 28 ≡ count)
+-- bytes with a legal header, whose page count is valid, and this number where the space does not tell its pages
+abbrev pub IsFront : Option Paging → ℕ → List ℕ → Type 0
+IsFront told count bytes = (header_of bytes ≡ Ok (fields bytes)) × (is_size_valid (fields bytes) ≡ true) × (told ≡ None → u32_at bytes 28 ≡ count)
 
 -- why bytes may not be put on page 1: it is not known, they do not keep its front, or they are no front for so many pages
-abbrev pub SpoilsFront : (seen laid : PageMap) (count : ℕ) → List ℕ → Type 0
-SpoilsFront seen laid count bytes =
-    IsUnknown seen laid ⊎ (((pages : Paging) → Agrees pages seen → KeepsFront (lay laid pages 1) bytes → ⊥) ⊎ (IsFront count bytes → ⊥))
+abbrev pub SpoilsFront : (told : Option Paging) (seen laid : PageMap) (count : ℕ) → List ℕ → Type 0
+SpoilsFront told seen laid count bytes =
+    IsUnknown seen laid ⊎ (((pages : Paging) → Agrees pages seen → KeepsFront (lay laid pages 1) bytes → ⊥) ⊎ (IsFront told count bytes → ⊥))
+
+-- why no page 1 that names more pages may be put: the space does not tell its pages, and it would have no legal header
+abbrev pub SpoilsGrowth : (told : Option Paging) (seen laid : PageMap) (count : ℕ) → Type 0
+SpoilsGrowth told seen laid count = (told ≡ None) × ((pages : Paging) → Agrees pages seen → IsErr (header_of (recounted count (lay laid pages 1))))

@@ -1,11 +1,10 @@
 //! What every space of pages does.
 
-ghost use Rattle.std.specs.Prelude.{◌≡◌, ◌≢◌, ◌⊎◌, ◌+◌, ◌<◌, ◌≤◌, ℕ, Bool, false, Option, replicate, length, Some, IsSome, IsTrue, IsErr, IfOk, IfErr, IfSome, OnOk, OnErr};
-ghost use Rattle.spe_model.specs.Header.{header_of};
+ghost use Rattle.std.specs.Prelude.{◌≡◌, ◌≢◌, ◌⊎◌, ◌+◌, ◌<◌, ◌≤◌, ℕ, Bool, false, Option, replicate, length, Some, IsSome, IsTrue, IfOk, IfErr, IfSome, OnOk, OnErr};
 ghost use Rattle.spe_model.specs.Paging.{Paging, PageMap, Agrees, lay, IsPageSize, IsUsableSize};
 ghost use Rattle.spe_space.specs.declared.fault.SpaceFault.{SpaceFault as Fault};
 ghost use Rattle.spe_space.specs.Free.{EachStanding, IsApart, IsSame, IsNew};
-ghost use Rattle.spe_space.specs.Front.{number_in, recounted, SpoilsFront};
+ghost use Rattle.spe_space.specs.Front.{number_in, recounted, SpoilsFront, SpoilsGrowth};
 ghost use Rattle.spe_space.specs.Outcome.{refusal_after, IsInside, Fits, FitsGet, FitsPut, FitsExtend, OnCorrupt};
 
 use crate::fault::SpaceFault;
@@ -94,7 +93,8 @@ pub trait Pages {
     ///
     /// Corrupt comes only on page 1: where it was neither given nor put, where the bytes have not its
     /// first 24 bytes and its number of pages, or where they are no legal header with a valid page
-    /// count and the space's number of pages. A read-only space answers PageOut with page 0.
+    /// count, which is the space's number of pages unless the space tells what its pages hold. A
+    /// read-only space answers PageOut with page 0.
     fn put(&mut self, page: u32, bytes: &[u8]) -> Result<(), SpaceFault>
         requires { length bytes.now ≡ size self.old }
         ensures ok { OnOk result (laid self.new page ≡ Some bytes.now) }
@@ -119,14 +119,15 @@ pub trait Pages {
         ensures open { OnOk result (sealed self.old ≡ false) }
         ensures fault { IfErr result (Fits (sealed self.old) (count self.new) (FitsPut (count self.new) page)) }
         ensures corrupt { IfErr result (OnCorrupt
-            (SpoilsFront (seen self.old) (laid self.old) (count self.new) bytes.now)) }
+            (SpoilsFront (told self.old) (seen self.old) (laid self.old) (count self.new) bytes.now)) }
         ensures admitted { IfErr result (λ fault. IsTrue (admits fault)) };
 
     /// Adds 16 pages of zeros, and answers the first of them. Page 1 is put too: it then names the new
     /// number of pages, and its change counter is one more.
     ///
     /// Full comes only where there may not be 16 pages more, and Corrupt only where page 1 would be no
-    /// legal header. A read-only space answers PageOut with page 0. A fault puts nothing.
+    /// legal header and the space does not tell what its pages hold. A read-only space answers PageOut
+    /// with page 0. A fault puts nothing.
     fn extend(&mut self) -> Result<u32, SpaceFault>
         ensures front { IfOk result (λ first. (pages : Paging) → Agrees pages (seen self.new)
             → laid self.new 1 ≡ Some (recounted (first + 15) (lay (laid self.old) pages 1))) }
@@ -158,8 +159,8 @@ pub trait Pages {
         ensures open { OnOk result (sealed self.old ≡ false) }
         ensures fault { IfErr result (Fits (sealed self.old) (count self.new)
             (FitsExtend (count self.new) (limit self.old))) }
-        ensures corrupt { IfErr result (OnCorrupt ((pages : Paging) → Agrees pages (seen self.new)
-            → IsErr (header_of (recounted (count self.new + 16) (lay (laid self.old) pages 1))))) }
+        ensures corrupt { IfErr result (OnCorrupt
+            (SpoilsGrowth (told self.old) (seen self.new) (laid self.old) (count self.new + 16))) }
         ensures admitted { IfErr result (λ fault. IsTrue (admits fault)) };
 
     // What was given is what is told.

@@ -1,5 +1,6 @@
 use spe_journal::{JournalText, checksum, put_head, put_record};
 use std::alloc::{AllocError, Global};
+use std::process::Abort;
 use std::test::Fail;
 
 #[test]
@@ -32,33 +33,52 @@ fn journal(alloc: Global) -> Result<Vec<u8>, AllocError> {
     Ok(journal)
 }
 
-// How much of the journal is kept, a byte of it that is changed, and how many records are hot.
-static HOT: [(usize, Option<usize>, usize); 9] = [
-    (1552, None, 2),
-    (1551, None, 1),
-    (1032, None, 1),
-    (1031, None, 0),
-    (512, None, 0),
+// How much of the journal is kept, a byte of it that is changed, how many records are hot, and byte
+// 311 of the second one's page.
+static HOT: [(usize, Option<usize>, usize, u8); 9] = [
+    (1552, None, 2, 0),
+    (1551, None, 1, 0),
+    (1032, None, 1, 0),
+    (1031, None, 0, 0),
+    (512, None, 0, 0),
     // a byte that the checksum covers, one that it doesn't, the checksum, and one of the first record
-    (1552, Some(1348), 1),
-    (1552, Some(1347), 2),
-    (1552, Some(1548), 1),
-    (1552, Some(828), 0),
+    (1552, Some(1348), 1, 0),
+    (1552, Some(1347), 2, 1),
+    (1552, Some(1548), 1, 0),
+    (1552, Some(828), 0, 0),
 ];
+
+fn expect(
+    rt: &impl Abort,
+    alloc: Global,
+    case: &(usize, Option<usize>, usize, u8),
+) -> Result<(), AllocError> {
+    let (length, changed, count, byte) = *case;
+    let mut bytes = journal(alloc)?;
+    if let Some(place) = changed.and_then(|at| bytes.get_mut(at)) {
+        *place ^= 1;
+    }
+    bytes.truncate(length);
+    let mut second = [0u8; 512];
+    second[311] = byte;
+    let wanted: [(u32, [u8; 512]); 2] = [(3, [0xff; 512]), (2, second)];
+    match JournalText::read(alloc, &bytes, 512)? {
+        JournalText::Hot(records) => {
+            assert_eq!(rt; records.as_slice().len(), count, "{length}");
+            for (record, (page, content)) in records.as_slice().iter().zip(wanted.iter()) {
+                assert_eq!(rt; record.page, *page, "{length}");
+                assert!(rt; record.content.as_slice() == content.as_slice(), "{length}");
+            }
+        }
+        _ => assert!(rt; false, "not hot"),
+    }
+    Ok(())
+}
 
 #[test]
 fn hot(rt: HostRuntime) -> Result<(), Fail> {
-    for (length, changed, count) in &HOT {
-        let mut bytes = journal(rt.alloc())?;
-        if let Some(place) = changed.and_then(|at| bytes.get_mut(at)) {
-            *place ^= 1;
-        }
-        bytes.truncate(*length);
-        let found = JournalText::read(rt.alloc(), &bytes, 512)?;
-        match found {
-            JournalText::Hot(records) => assert_eq!(rt; records.as_slice().len(), *count),
-            _ => assert!(rt; false, "not hot"),
-        }
+    for case in &HOT {
+        expect(&rt, rt.alloc(), case)?;
     }
     Ok(())
 }

@@ -11,10 +11,16 @@ use std::alloc::{AllocError, Global};
 pub enum Filling {
     /// Page 2 with one row.
     Row,
+    /// Page 2 as it was, with no row.
+    Old,
     /// Page 1 as it names so many pages.
     Pages(u8),
     /// Page 1 with another change counter, so that its number of pages does not count.
     Uncounted,
+    /// Page 1 with UTF-16 text, so that its header is not one that is read.
+    Unread,
+    /// Page 1 as it names 2097153 pages, which take one page more than 2^30 bytes.
+    TooMany,
     /// Page 1 with another page size.
     OtherFront,
     /// A byte less than a page.
@@ -33,22 +39,24 @@ pub enum Move {
     Undo,
     Roll,
     Stop,
-    /// A stop within the next event but one of these: opening a journal, a record of page 2, a row
-    /// on page 2, one operation of recovery, or beginning; after so many bytes.
+    /// A stop after so many bytes of the write of what was to come next.
     StopIn(Next, u64),
     Recover,
     /// An event that is never enabled yet.
     Never(u8),
 }
 
-/// What was to come next at a stop.
+/// What was to come next at a stop: the journal's head, a record of page 2, a row on page 2, its old
+/// bytes, an operation of recovery, a beginning, or another stop.
 #[derive(Clone, Copy)]
 pub enum Next {
     Open,
     Record,
     Row,
+    Undo,
     Recover,
     Begin,
+    Stop,
 }
 
 /// The bytes of a page filled so.
@@ -56,6 +64,10 @@ pub fn page_of(alloc: Global, filling: Filling) -> Result<Bytes, AllocError> {
     let mut page = two(alloc)?;
     page.truncate(PAGE);
     match filling {
+        Filling::Old => {
+            page = vec![in alloc; 0u8; PAGE]?;
+            lay(&mut page, 0, b"\x0d\x00\x00\x00\x00\x02\x00");
+        }
         Filling::Row => {
             page = vec![in alloc; 0u8; PAGE]?;
             lay(&mut page, 0, b"\x0d\x00\x00\x00\x01\x01\xfa\x00\x01\xfa");
@@ -63,6 +75,8 @@ pub fn page_of(alloc: Global, filling: Filling) -> Result<Bytes, AllocError> {
         }
         Filling::Pages(pages) => lay(&mut page, 31, &[pages]),
         Filling::Uncounted => lay(&mut page, 27, &[4]),
+        Filling::Unread => lay(&mut page, 59, &[2]),
+        Filling::TooMany => lay(&mut page, 28, &[0, 0x20, 0, 1]),
         Filling::OtherFront => lay(&mut page, 16, &[4]),
         Filling::Short => page.truncate(PAGE - 1),
     }
@@ -78,8 +92,13 @@ fn next_of(alloc: Global, next: Next) -> Result<Event, AllocError> {
             page: 2,
             bytes: page_of(alloc, Filling::Row)?,
         },
+        Next::Undo => Event::UndoBytes { id: 0 },
         Next::Recover => Event::RecoverOp,
         Next::Begin => Event::Begin { id: 0 },
+        Next::Stop => Event::Stop {
+            next: None,
+            bytes: 0,
+        },
     })
 }
 

@@ -55,8 +55,16 @@ pub fn recovered(alloc: Global, disk: &mut MemDisk) -> Result<Recovered, Recover
     requires { is_attached disk.old ≡ false }
     ensures { is_attached disk.new ≡ true }
 {
+    wanted(alloc, disk, Want::Any)
+}
+
+/// Attaches a disk and recovers it, where its pages are such as are wanted.
+pub fn wanted(alloc: Global, disk: &mut MemDisk, want: Want) -> Result<Recovered, RecoverFault>
+    requires { is_attached disk.old ≡ false }
+    ensures { is_attached disk.new ≡ true }
+{
     match disk.attach("two.db") {
-        Ok(_) => recover(alloc, disk, Want::Any),
+        Ok(_) => recover(alloc, disk, want),
         Err(_) => Err(RecoverFault::Disk),
     }
 }

@@ -5,7 +5,8 @@ ghost use Rattle.spe_disk.specs.Memory.{is_attached};
 
 use super::files::{journal, spoilt, two};
 use super::run::{Failing, NOTHING, disk_of, file_of, recovered};
-use spe_disk::{MemDisk, stopped_at};
+use super::watched::{Made, Watched};
+use spe_disk::{FileNo, MemDisk, stopped_at};
 use std::alloc::{AllocError, Global};
 use std::process::Abort;
 use std::test::Fail;
@@ -22,20 +23,39 @@ pub fn three(alloc: Global, failing: Failing) -> Result<MemDisk, AllocError>
     disk_of(alloc, &file, &journals, failing)
 }
 
-// After so many operations and bytes of the next, recovery run again makes so many.
-static STOPS: [(usize, usize, u64); 9] = [
-    (0, 0, 6),
-    (0, 1, 6),
-    (1, 511, 6),
-    (2, 0, 6),
-    (3, 0, 6),
-    (4, 0, 4),
-    (5, 0, 2),
-    (6, 0, 0),
-    (7, 7, 0),
+// What recovery makes of these files.
+const WRITE_2: Made = Made::Write(FileNo::Database, 512, 512);
+
+const WRITE_3: Made = Made::Write(FileNo::Database, 1024, 512);
+
+const WRITE_5: Made = Made::Write(FileNo::Database, 2048, 512);
+
+const CUT_0: Made = Made::Cut(FileNo::Journal(0), 0);
+
+const CUT_1: Made = Made::Cut(FileNo::Journal(1), 0);
+
+const CUT_2: Made = Made::Cut(FileNo::Journal(2), 0);
+
+const ALL: [Made; 6] = [WRITE_2, WRITE_3, WRITE_5, CUT_0, CUT_1, CUT_2];
+
+// After so many operations and bytes of the next, recovery run again makes these.
+static STOPS: [(usize, usize, &[Made]); 9] = [
+    (0, 0, &ALL),
+    (0, 1, &ALL),
+    (1, 511, &ALL),
+    (2, 0, &ALL),
+    (3, 0, &ALL),
+    (4, 0, &[WRITE_3, WRITE_5, CUT_1, CUT_2]),
+    (5, 0, &[WRITE_5, CUT_2]),
+    (6, 0, &[]),
+    (7, 7, &[]),
 ];
 
-fn expect(rt: &impl Abort, alloc: Global, case: &(usize, usize, u64)) -> Result<(), AllocError> {
+fn expect(
+    rt: &impl Abort,
+    alloc: Global,
+    case: &(usize, usize, &[Made]),
+) -> Result<(), AllocError> {
     let (ops, bytes, again) = *case;
     let mut disk = three(alloc, NOTHING)?;
     let first = recovered(alloc, &mut disk);
@@ -43,13 +63,16 @@ fn expect(rt: &impl Abort, alloc: Global, case: &(usize, usize, u64)) -> Result<
         first.map(|found| (found.pages, found.rolled, found.ops)),
         Ok((6, 7, 6))
     );
-    let mut stopped = stopped_at(alloc, &disk, ops, bytes)?;
-    let second = recovered(alloc, &mut stopped);
+    let mut watched = Watched::over(alloc, stopped_at(alloc, &disk, ops, bytes)?);
+    let second = watched.recover(alloc);
     assert_eq!(rt;
         second.map(|found| (found.pages, found.ops)),
-        Ok((6, again)),
+        Ok((6, again.len() as u64)),
         "{ops}"
     );
+    assert_eq!(rt; watched.made(), again, "{ops}");
+    let mut stopped = stopped_at(alloc, &disk, ops, bytes)?;
+    let _ = recovered(alloc, &mut stopped);
     let wanted = two(alloc)?;
     assert_eq!(rt;
         file_of(alloc, &mut stopped)?.as_slice(),

@@ -2,10 +2,14 @@
 
 use super::files::{PEOPLE, Patch, file_of, lay};
 use super::run::{disk_of, expect, run, sink_of};
+use std::alloc::{AllocError, Global};
+use std::process::Abort;
+use std::sync::Wait;
 use std::test::Fail;
+use std::thread::Threads;
 
-// Words, and what is printed of them.
-static WORDS: [(&[&str], u8, &str); 7] = [
+// Words, and what is printed of them; there is no file.
+static WORDS: [(&[&str], u8, &str); 17] = [
     (&[], 1, "refused words\n"),
     (&["rows"], 1, "refused words\n"),
     (&["rows", "people.db"], 1, "refused words\n"),
@@ -13,6 +17,30 @@ static WORDS: [(&[&str], u8, &str); 7] = [
     (&["rows", "-people.db", "p"], 1, "refused words\n"),
     (&["rows", "people.db", "p", "q"], 1, "refused words\n"),
     (&["Rows", "people.db", "p"], 1, "refused words\n"),
+    (&["backup", "b.db", "c.db"], 1, "refused words\n"),
+    (
+        &["run", "b.db", "--workers", "17", "s"],
+        1,
+        "refused words\n",
+    ),
+    (
+        &["run", "b.db", "--workers", "2", "--workers", "2", "s"],
+        1,
+        "refused words\n",
+    ),
+    (&["prepare", "b.db", "17"], 1, "refused words\n"),
+    // a name behind `--` may begin with `-`
+    (
+        &["rows", "--", "-people.db", "p"],
+        2,
+        "refused no-such-database\n",
+    ),
+    // commands to come
+    (&["check", "b.db"], 2, "refused not-built\n"),
+    (&["prepare", "b.db", "2"], 2, "refused not-built\n"),
+    (&["release", "b.db"], 2, "refused not-built\n"),
+    (&["run", "b.db", "s"], 2, "refused not-built\n"),
+    (&["work", "b.db", "1", "100"], 2, "refused not-built\n"),
 ];
 
 #[test]
@@ -83,18 +111,37 @@ fn no_file(rt: HostRuntime) -> Result<(), Fail> {
     Ok(())
 }
 
-// A reading call that fails, from the naming of the database to the page of the table.
+// Whether a run has so many reading calls; the last of them fails then.
+fn fails_at<R: Threads + Wait + Sync + Abort>(
+    rt: &R,
+    alloc: Global,
+    call: u64,
+) -> Result<bool, AllocError> {
+    let file = file_of(alloc, 1024, &PEOPLE)?;
+    let disk = disk_of(alloc, Some(&file), &[call])?;
+    let sink = sink_of(alloc, 1 << 16, &[])?;
+    let ended = run(rt, alloc, &["rows", "people.db", "p"], disk, sink)?;
+    if ended.disk.faults() == 0 {
+        assert_eq!(rt; ended.status, 0);
+        return Ok(false);
+    }
+    assert_eq!(rt; ended.sink.as_slice(), b"fault disk\n".as_slice(), "{call}");
+    assert_eq!(rt; ended.status, 3);
+    Ok(true)
+}
+
+// Each reading call fails once, from the naming of the database to the last page; a run that has
+// none left to fail passes.
 #[test]
 fn failing_reads(rt: HostRuntime) -> Result<(), Fail> {
-    for call in 1..=21 {
-        let file = file_of(rt.alloc(), 1024, &PEOPLE)?;
-        let disk = disk_of(rt.alloc(), Some(&file), &[call])?;
-        let sink = sink_of(rt.alloc(), 1 << 16, &[])?;
-        let ended = run(&rt, rt.alloc(), &["rows", "people.db", "p"], disk, sink)?;
-        assert_eq!(rt; ended.sink.as_slice(), b"fault disk\n".as_slice(), "{call}");
-        assert_eq!(rt; ended.status, 3);
-        assert_eq!(rt; ended.disk.faults(), 1);
+    let mut calls = 0;
+    for call in 1..=200 {
+        if !fails_at(&rt, rt.alloc(), call)? {
+            break;
+        }
+        calls = call;
     }
+    assert!(rt; 21 < calls && calls < 200);
     Ok(())
 }
 

@@ -64,7 +64,8 @@ static LONGS: [Long; 8] = [
     },
 ];
 
-fn payload_of(alloc: Global, length: u32) -> Result<Vec<u8>, AllocError> {
+/// So many bytes that count up to 250, again and again.
+pub fn payload_of(alloc: Global, length: u32) -> Result<Vec<u8>, AllocError> {
     let mut bytes = Vec::new(alloc);
     for i in 0..length {
         bytes.push((i % 251) as u8)?;
@@ -152,8 +153,8 @@ fn longs(rt: HostRuntime) -> Result<(), Fail> {
     Ok(())
 }
 
-// So many levels of one page each, the root page 1 with the next page as its right-most child, the last
-// a leaf with the row 7.
+// A tree of single pages from page 1 down: each has the page after it as its right-most child, and the
+// lowest is a leaf that has the row 7.
 fn deep_of(alloc: Global, levels: u32) -> Result<MapSpace, AllocError>
     ensures { IfOk result (λ s. map_refusal s ≡ None) }
 {

@@ -1,5 +1,6 @@
-use Rattle.std.proofs.Common.{◌≡◌, ◌∙◌, ap, sym, refl, Some, [], ◌∷◌}
-use Rattle.spe_model.specs.Trace.{Operation, after, made_by}
+use Rattle.std.proofs.Common.{◌≡◌, ℕ, ◌∙◌, ap, sym, refl, Some, [], ◌∷◌}
+use Rattle.spe_model.specs.Rollback.{write_of}
+use Rattle.spe_model.specs.Trace.{after, made_by}
 use Rattle.spe_core.specs.Changed.{undone, undo_of_live, page_write}
 use Rattle.spe_core.specs.Enabled.{is_serving}
 use Rattle.spe_core.specs.Lives.{updated_in}
@@ -20,6 +21,6 @@ returns-clause-ok c =
     let bytes = c.in-Some.bytes.now in
     let write = page_write s page bytes in
     let first : undo_of_live (live_of s c.args.id) ≡ Some (page, bytes) = sym c.in-Some.ensures in
-    let files : c.write.new.self ≡ after s.content (write ∷ []) = c.in_ok-write-2.ensures.ok ∙ ap (λ (op : Operation). made_by op s.content) c.in_ok-write.ensures in
+    let files : c.write_page.new.self ≡ after s.content (write ∷ []) = c.in_ok-write_page.ensures.ok ∙ ap (λ (size : ℕ). made_by (write_of size (record { page = page; content = bytes })) s.content) c.page_size-size.ensures in
     let live : c.undo.new.self ≡ updated_in c.args.id (undone (Some (page, bytes))) s.live = c.undo.ensures bytes in
     record { state = rw first (rw (files, live, c.in_ok-made.ensures) refl ∙ sym (made_is s c.args.id (undone (Some (page, bytes))) (write ∷ []))); pages = refl }

@@ -1,35 +1,12 @@
-use Rattle.std.proofs.Common.{sym, ◌∙◌, ap, arith}
-use Rattle.std.proofs.lemmas.Str.{IsUtf8-drop}
-use Rattle.spe_lex.specs.Piece.{piece_at}
-use Rattle.spe_lex.proofs.PieceLemmas.{boundary}
-use Rattle.spe_lex.proofs.LexLemmas.{front_piece, loop_turn}
+use Rattle.std.proofs.Common.{sym, ◌∙◌, ap}
+use Rattle.spe_lex.specs.Front.{whole}
+use Rattle.spe_lex.proofs.LexLemmas.{lexemes_of-front}
 use Rattle.spe_lex.proofs.reading.lexemes.Goals as goal
 
-pub split_at-requires : goal.split_at-requires
-split_at-requires c =
-    let front = front_piece c.loop-left.left.now c.in-Some.kind c.in-Some.len (ap piece_at (sym c.as_bytes.ensures.value) ∙ (sym c.piece.ensures ∙ c.in-Some.is)) in
-    boundary c.loop-left.left.now c.in-Some.len front.ends c.loop-left.invariant.text
+pub returns-in-Some : goal.returns-in-Some
+returns-in-Some c =
+    lexemes_of-front c.args.text.now ∙ ap whole (sym c.in-Ok.ensures ∙ ap (λ o. (c.in-Ok.front.lexemes.items, o)) c.in-Some.is)
 
-pub push-requires : goal.push-requires
-push-requires c =
-    let front = front_piece c.loop-left.left.now c.in-Some.kind c.in-Some.len (ap piece_at (sym c.as_bytes.ensures.value) ∙ (sym c.piece.ensures ∙ c.in-Some.is)) in
-    rw c.split_at.ensures.front (front.sound c.loop-left.invariant.text)
-
-pub loop-left-smaller : goal.loop-left-smaller
-loop-left-smaller c =
-    let front = front_piece c.loop-left.left.now c.in-Some.kind c.in-Some.len (ap piece_at (sym c.as_bytes.ensures.value) ∙ (sym c.piece.ensures ∙ c.in-Some.is)) in
-    omega (arith, front.ends.some, front.ends.within, c.split_at.ensures.back_len)
-
-pub loop-left-preserved : goal.loop-left-preserved
-loop-left-preserved c =
-    let is = ap piece_at (sym c.as_bytes.ensures.value) ∙ (sym c.piece.ensures ∙ c.in-Some.is) in
-    let front = front_piece c.loop-left.left.now c.in-Some.kind c.in-Some.len is in record {
-      read =
-          rw (c.in_ok-push.ensures, c.split_at.ensures.front, c.split_at.ensures.back)
-          (loop_turn c.loop-left.found.items c.loop-left.at c.loop-left.left.now c.in-Some.kind c.in-Some.len _ is front.ends.some c.loop-left.invariant.read);
-      rest = omega (arith, front.ends.within, c.split_at.ensures.back_len, c.loop-left.invariant.rest);
-      text =
-          rw c.split_at.ensures.back
-          (IsUtf8-drop c.loop-left.left.now c.in-Some.len c.loop-left.invariant.text
-          (boundary c.loop-left.left.now c.in-Some.len front.ends c.loop-left.invariant.text));
-    }
+pub returns-in-Ok : goal.returns-in-Ok
+returns-in-Ok c =
+    lexemes_of-front c.args.text.now ∙ ap whole (sym c.in-Ok.ensures ∙ ap (λ o. (c.in-Ok.front.lexemes.items, o)) c.in-None.is)

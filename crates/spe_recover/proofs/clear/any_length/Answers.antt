@@ -1,23 +1,19 @@
-use Rattle.std.proofs.Common.{◌∙◌, arith}
+use Rattle.std.proofs.Common.{arith}
 use Rattle.spe_recover.proofs.ClearLemmas.{look_found, look_turn, look_none}
 use Rattle.spe_recover.proofs.clear.any_length.Goals as goal
 
-pub returns-then-branch-gt0-clause-any : goal.returns-then-branch-gt0-clause-any
-returns-then-branch-gt0-clause-any g c =
-    look_found (g.D.Disk.told c.args.disk.now) c.loop-id.id c.in_ok-journal_length.field-0 c.loop-id-test.true c.if-branch-gt0.true
-    (rw c.loop-id.invariant.same at c.in_ok-journal_length.ensures.length) c.loop-id.invariant.looked
-
-pub loop-id-preserved : goal.loop-id-preserved
-loop-id-preserved g c = record {
-  attached = c.journal_length.ensures.attached;
-  same = c.journal_length.ensures.same ∙ c.loop-id.invariant.same;
-  operations = c.journal_length.ensures.operations ∙ c.loop-id.invariant.operations;
-  later = omega (arith, c.loop-id.invariant.later, c.journal_length.ensures.cause.later);
-  few = omega arith;
-  looked =
-      look_turn (g.D.Disk.told c.args.disk.now) c.loop-id.id c.in_ok-journal_length.field-0 c.loop-id-test.true c.if-branch-gt0.false
-      (rw c.loop-id.invariant.same at c.in_ok-journal_length.ensures.length) c.loop-id.invariant.looked;
+pub returns-then-head_at-gt0 : goal.returns-then-head_at-gt0
+returns-then-head_at-gt0 c = record {
+  any = λ content known.
+      look_found content c.loop-id.id c.head_at.result.length c.loop-id-test.true c.if-head_at-gt0.true (known _ _ c.head_at.ensures) (c.loop-id.invariant.looked content known);
 }
 
-pub returns-clause-any : goal.returns-clause-any
-returns-clause-any g c = look_none (g.D.Disk.told c.args.disk.now) c.loop-id.id c.loop-id-test.false c.loop-id.invariant.looked
+pub loop-id-preserved : goal.loop-id-preserved
+loop-id-preserved c = record {
+  few = omega arith;
+  looked = λ content known.
+      look_turn content c.loop-id.id c.head_at.result.length c.loop-id-test.true c.if-head_at-gt0.false (known _ _ c.head_at.ensures) (c.loop-id.invariant.looked content known);
+}
+
+pub returns : goal.returns
+returns c = record { any = λ content known. look_none content c.loop-id.id c.loop-id-test.false (c.loop-id.invariant.looked content known) }

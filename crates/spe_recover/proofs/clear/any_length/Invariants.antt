@@ -1,17 +1,14 @@
-use Rattle.std.proofs.Common.{◌≡◌, ◌≤◌, ◌-◌, true}
-use Rattle.spe_recover.specs.Told.{WhereTold}
+use Rattle.std.proofs.Common.{◌≤◌, ◌-◌}
+use Rattle.spe_model.specs.Content.{Content}
+use Rattle.spe_recover.specs.Heads.{HaveLengths}
 use Rattle.spe_recover.proofs.ClearLemmas.{IsLooked}
 use Rattle.spe_recover.proofs.clear.any_length.Given as goal
 
 abbrev pub invariant-loop-id : goal.invariant-loop-id
-invariant-loop-id g l = record {
-  attached : g.D.Disk.attached l.disk ≡ true;
-  same : g.D.Disk.told l.disk ≡ g.D.Disk.told l.fn.disk;
-  operations : g.D.Disk.op_faults l.disk ≡ g.D.Disk.op_faults l.fn.disk;
-  later : g.D.Disk.read_faults l.fn.disk ≤ g.D.Disk.read_faults l.disk;
+invariant-loop-id l = record {
   few : l.id ≤ 16;
-  looked : WhereTold (g.D.Disk.told l.fn.disk) (IsLooked l.id);
+  looked : (content : Content) → HaveLengths l.heads content → IsLooked l.id content;
 }
 
 abbrev pub decreases-loop-id : goal.decreases-loop-id
-decreases-loop-id g l = 16 - l.id
+decreases-loop-id l = 16 - l.id

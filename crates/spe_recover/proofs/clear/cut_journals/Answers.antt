@@ -1,4 +1,4 @@
-use Rattle.std.proofs.Common.{arith}
+use Rattle.std.proofs.Common.{arith, refl, ◌∙◌}
 use Rattle.spe_recover.proofs.ClearLemmas.{StaysFrom-same, StaysFrom-next, uncut_first, uncut_turn, uncut_none, cuts_first, cuts_turn, cuts_broken}
 use Rattle.spe_recover.proofs.CutLemmas.{OnErr-any}
 use Rattle.spe_recover.proofs.clear.cut_journals.Goals as goal
@@ -6,7 +6,7 @@ use Rattle.spe_recover.proofs.clear.cut_journals.Goals as goal
 pub loop-id-init : goal.loop-id-init
 loop-id-init g c = record {
   attached = c.requires.attached;
-  reads_later = omega arith;
+  readings = refl;
   ops_later = omega arith;
   number = omega arith;
   few = omega arith;
@@ -18,8 +18,8 @@ loop-id-init g c = record {
 pub loop-id-preserved : goal.loop-id-preserved
 loop-id-preserved g c = record {
   attached = c.cut_journal.ensures.attached;
-  reads_later = omega (arith, c.loop-id.invariant.reads_later, c.cut_journal.ensures.cause.reads_later);
-  ops_later = omega (arith, c.loop-id.invariant.ops_later, c.cut_journal.ensures.cause.ops_later);
+  readings = c.cut_journal.ensures.readings ∙ c.loop-id.invariant.readings;
+  ops_later = omega (arith, c.loop-id.invariant.ops_later, c.cut_journal.ensures.cause.later);
   number = omega arith;
   few = omega (arith, c.in_ok-made.ensures.few, c.loop-id.invariant.few);
   stays = StaysFrom-next c.loop-id.id (g.D.Disk.told c.args.disk.now) (g.D.Disk.told c.loop-id.disk) _ c.loop-id.invariant.stays c.in_ok-made.ensures.stays;

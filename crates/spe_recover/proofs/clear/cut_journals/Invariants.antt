@@ -6,7 +6,7 @@ use Rattle.spe_recover.proofs.clear.cut_journals.Given as goal
 abbrev pub invariant-loop-id : goal.invariant-loop-id
 invariant-loop-id g l = record {
   attached : g.D.Disk.attached l.disk ≡ true;
-  reads_later : g.D.Disk.read_faults l.fn.disk ≤ g.D.Disk.read_faults l.disk;
+  readings : g.D.Disk.read_faults l.disk ≡ g.D.Disk.read_faults l.fn.disk;
   ops_later : g.D.Disk.op_faults l.fn.disk ≤ g.D.Disk.op_faults l.disk;
   number : l.id ≤ 16;
   few : l.made ≤ l.id;

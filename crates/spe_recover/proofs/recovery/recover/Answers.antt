@@ -9,4 +9,4 @@ pub returns-clause-settled : goal.returns-clause-settled
 returns-clause-settled g c =
     left_settled (g.D.Disk.told c.args.disk.now) _ c.recover_files.result c.rollback_keeps.ensures.keeps c.rollback_restores.ensures.empties
     c.rollback_restores.ensures.restores c.recovered_pages.ensures.headed c.recovered_pages.ensures.whole
-    c.recover_files.ensures.pages c.recover_files.ensures.page_size c.recover_files.ensures.reserved c.recover_files.ensures.made c.recover_files.ensures.cut
+    c.recover_files.ensures.pages c.recover_files.ensures.page_size c.recover_files.ensures.reserved c.recover_files.ensures.node c.recover_files.ensures.made c.recover_files.ensures.cut

@@ -1,17 +1,14 @@
-use Rattle.std.proofs.Common.{◌≡◌, ◌≤◌, ◌-◌, true}
-use Rattle.spe_recover.specs.Told.{WhereTold}
+use Rattle.std.proofs.Common.{ℕ, ◌≤◌, ◌-◌}
+use Rattle.spe_model.specs.Content.{Content}
+use Rattle.spe_recover.specs.Heads.{AreHeads}
 use Rattle.spe_recover.proofs.RolledLemmas.{AreRolled}
 use Rattle.spe_recover.proofs.rolled.find_rolled.Given as goal
 
 abbrev pub invariant-loop-id : goal.invariant-loop-id
-invariant-loop-id g l = record {
-  attached : g.D.Disk.attached l.disk ≡ true;
-  same : g.D.Disk.told l.disk ≡ g.D.Disk.told l.fn.disk;
-  operations : g.D.Disk.op_faults l.disk ≡ g.D.Disk.op_faults l.fn.disk;
-  later : g.D.Disk.read_faults l.fn.disk ≤ g.D.Disk.read_faults l.disk;
+invariant-loop-id l = record {
   few : l.id ≤ 16;
-  rolled : WhereTold (g.D.Disk.told l.fn.disk) (AreRolled l.page_size l.id l.rolled);
+  rolled : (content : Content) (page_size : ℕ) → AreHeads content page_size l.heads → AreRolled page_size l.id l.rolled content;
 }
 
 abbrev pub decreases-loop-id : goal.decreases-loop-id
-decreases-loop-id g l = 16 - l.id
+decreases-loop-id l = 16 - l.id

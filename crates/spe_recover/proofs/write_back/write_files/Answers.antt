@@ -1,7 +1,14 @@
 use Rattle.std.proofs.Common.{◌*◌, refl}
 use Rattle.spe_recover.proofs.CutLemmas.{OnErr-any}
+use Rattle.spe_recover.proofs.HeadLemmas.{lengths_now}
+use Rattle.spe_recover.proofs.RestoreLemmas.{Stays-trans}
 use Rattle.spe_recover.proofs.WrittenLemmas.{all_made, restoring_stopped, cutting_stopped, clearing_stopped}
 use Rattle.spe_recover.proofs.write_back.write_files.Goals as goal
+
+pub cut_journals-requires-clause-lengths : goal.cut_journals-requires-clause-lengths
+cut_journals-requires-clause-lengths g c =
+    lengths_now (g.D.Disk.told c.args.disk.now) _ c.args.survey.now.page_size c.args.heads.now
+    (Stays-trans (g.D.Disk.told c.args.disk.now) (g.D.Disk.told c.restore_all.new.disk) _ c.in_ok-restored.ensures.stays c.in_ok-cut.ensures.stays) c.requires.heads
 
 pub returns-clause-made : goal.returns-clause-made
 returns-clause-made g c =

@@ -1,6 +1,7 @@
 use Rattle.std.proofs.Common.{◌≡◌, ◌∙◌, ◌<◌, sym, arith, to_z, of_z, w64, to_z-of_z}
 use Rattle.spe_search.proofs.FoundLemmas.{reads_twice}
-use Rattle.spe_search.proofs.LastLemmas.{rows_end, cut_first, cut_more, cut_found, found_same, cut_fault, cut_none, left_fault, left_names, cut_names, end_adds, more_adds, cut_adds}
+use Rattle.spe_search.proofs.LastLemmas.{rows_end, cut_first, cut_more, cut_found, found_same, cut_fault, cut_none, left_fault, left_names, end_names, cut_names, end_adds, more_adds, cut_adds}
+use Rattle.spe_search.proofs.MissLemmas.{misses_end, misses_cut}
 use Rattle.spe_search.proofs.last.+last_below.Goals as goal
 
 pub returns-in-Ok-Rows-clause-found : goal.returns-in-Ok-Rows-clause-found
@@ -60,7 +61,7 @@ returns-in-Err-left_at-clause-found g t c =
 
 pub returns-in-Err-left_at-clause-damage : goal.returns-in-Err-left_at-clause-damage
 returns-in-Err-left_at-clause-damage g t c =
-    left_names g.S.Pages c.args.space.now c.children.space c.last_below.new.space c.left_at.new.space c.args.page c.args.levels c.children.before c.children.child _ c.in-Err-left_at.fault
+    left_names g.S.Pages c.args.space.now c.children.space c.last_below.new.space c.left_at.new.space c.args.page c.args.levels c.children.before c.children.child _ c.in-Err-left_at.fault (omega arith)
     c.children.invariant.kept c.in-Ok-None.ensures.kept c.in-Err-left_at.ensures.kept (omega arith) c.children.invariant.cut c.in-Err-left_at.ensures.given
 
 pub returns-in-Err-left_at-clause-adds : goal.returns-in-Err-left_at-clause-adds
@@ -82,3 +83,17 @@ children-preserved g t c =
           (cut_adds g.S.Pages c.args.space.now c.children.space c.last_below.new.space c.args.page c.args.levels c.children.before c.children.child
           c.children.invariant.kept c.in-Ok-None.ensures.kept c.children.invariant.cut c.children.invariant.adds c.in-Ok-None.ensures.adds);
     }
+
+pub returns-in-Err-clause-page_out : goal.returns-in-Err-clause-page_out
+returns-in-Err-clause-page_out g t c = misses_end g.S.Pages c.args.space.now c.end_at.new.space c.args.page c.args.levels c.in-Err.fault c.in-Err.ensures.page_out
+
+pub returns-in-Err-clause-damage : goal.returns-in-Err-clause-damage
+returns-in-Err-clause-damage g t c = end_names g.S.Pages c.args.space.now c.end_at.new.space c.args.page c.args.levels c.in-Err.fault (omega arith) c.in-Err.ensures.given
+
+pub returns-in-Err-last_below-clause-page_out : goal.returns-in-Err-last_below-clause-page_out
+returns-in-Err-last_below-clause-page_out g t c =
+    misses_cut g.S.Pages c.args.space.now c.children.space c.last_below.new.space c.args.page c.args.levels c.children.before c.children.child c.in-Err-last_below.fault
+    c.children.invariant.kept c.in-Err-last_below.ensures.kept c.children.invariant.cut c.in-Err-last_below.ensures.page_out
+
+pub returns-in-Err-left_at-clause-page_out : goal.returns-in-Err-left_at-clause-page_out
+returns-in-Err-left_at-clause-page_out g t c = misses_end g.S.Pages c.args.space.now c.left_at.new.space c.args.page c.args.levels c.in-Err-left_at.fault c.in-Err-left_at.ensures.page_out

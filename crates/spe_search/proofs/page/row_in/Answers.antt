@@ -25,7 +25,7 @@ returns c =
     let cell = cell_seen c.in-Some-cell.parts in
     let found : Found = record { local = c.new.result; rest = c.saturating_sub.result; chain = c.in-Some-cell.parts.chain } in
     let inside : IsFoundIn found cell = (c.new.ensures ∙ c.in_ok-local.ensures.items, c.saturating_sub.ensures, refl) in (
-      (cell, record { index = c.in-Some.place; is = sym c.in-Some-cell.ensures }, inside),
+      (cell, record { index = c.in-Some.place; is = sym c.in-Some-cell.ensures }, (let same : to_z w64 (of_z w64 c.args.rowid) ≡ c.args.rowid = grind (arith, to_z-of_z) in c.has_rowid.ensures.here c.if-not-has_rowid.false ∙ same), inside),
       found_here c.args.view.now.cells c.args.rowid c.in-Some.place cell found (let same : c.rank_of.result ≡ rank c.args.rowid = grind (arith, to_z-of_z) in rw same at c.in-Some.ensures.1) c.in-Some-cell.ensures
           (omega (arith, c.in-Some.ensures.0, c.if-place-count.false, c.count.ensures)) (let same : to_z w64 (of_z w64 c.args.rowid) ≡ c.args.rowid = grind (arith, to_z-of_z) in c.has_rowid.ensures.here c.if-not-has_rowid.false ∙ same) inside,
     )

@@ -1,7 +1,10 @@
-use Rattle.std.proofs.Common.{◌∙◌, drop, arith}
+use Rattle.std.proofs.Common.{ℕ, ◌∙◌, drop, arith}
 use Rattle.std.proofs.lemmas.Grind.{common_steps}
 use Rattle.std.proofs.lemmas.List.{drop_more}
 use Rattle.spe_search.proofs.AddsLemmas.{adds_visit, adds_child}
+use Rattle.std.specs.declared.vec.Vec.{Vec}
+use Rattle.std.specs.declared.alloc.Global.{Global}
+use Rattle.spe_search.proofs.MissLemmas.{misses_walk, misses_child}
 use Rattle.spe_search.proofs.FoundLemmas.{reads_twice}
 use Rattle.spe_search.proofs.WalkLemmas.{walked_first, walked_more, walked_fault, walked_names, walked_rest, walked_end}
 use Rattle.spe_search.proofs.rows.+walk.Goals as goal
@@ -34,6 +37,15 @@ pub returns-in-Err-walk-clause-adds : goal.returns-in-Err-walk-clause-adds
 returns-in-Err-walk-clause-adds g t c =
     adds_child g.S.Pages c.args.space.now c.loop-left.space c.walk.new.space c.args.page c.args.low c.args.high c.args.levels _ c.args.out.now c.loop-left.out _ _
     c.loop-left.invariant.kept c.in-Err-walk.ensures.kept (drop_more c.loop-left.left.now 0 _ (omega (arith, c.in-len1-up.len_at_least))) c.loop-left.invariant.walked c.loop-left.invariant.adds c.in-Err-walk.ensures.adds
+
+pub returns-in-Err-clause-page_out : goal.returns-in-Err-clause-page_out
+returns-in-Err-clause-page_out g t c =
+    misses_walk (Vec ℕ Global) (Unit {0}) g.S.Pages c.args.space.now c.visit.new.space c.args.page c.args.low c.args.high c.in-Err.fault c.in-Err.ensures.page_out
+
+pub returns-in-Err-walk-clause-page_out : goal.returns-in-Err-walk-clause-page_out
+returns-in-Err-walk-clause-page_out g t c =
+    misses_child (Unit {0}) (Unit {0}) g.S.Pages c.args.space.now c.loop-left.space c.walk.new.space c.args.page c.args.low c.args.high c.args.levels _ c.in-Err-walk.fault c.args.out.now c.loop-left.out _ _
+    c.loop-left.invariant.kept c.in-Err-walk.ensures.kept (drop_more c.loop-left.left.now 0 _ (omega (arith, c.in-len1-up.len_at_least))) c.loop-left.invariant.walked c.in-Err-walk.ensures.page_out
 
 pub loop-left-preserved : goal.loop-left-preserved
 loop-left-preserved g t c = record {

@@ -3,6 +3,7 @@ use Rattle.spe_model.specs.Tree.{rank}
 use Rattle.spe_format.specs.View.{cell_seen}
 use Rattle.spe_search.proofs.PlaceLemmas.{hole_there}
 use Rattle.spe_search.proofs.RangeLemmas.{pushed_skip, pushed_more, pushed_fault, damage_row, adds_row_more}
+use Rattle.spe_search.proofs.MissLemmas.{misses_rows}
 use Rattle.spe_search.proofs.FoundLemmas.{reads_twice}
 use Rattle.spe_search.proofs.rows.push_rows.Goals.{then-is_within+in-Ok, else-is_within}
 use Rattle.spe_search.proofs.rows.push_rows.Goals as goal
@@ -34,6 +35,13 @@ returns-in-Err-clause-adds g c =
     c.loop-index.invariant.kept c.in-Err.ensures.kept c.in-Some.ensures
     (sym (same_within c.args.low c.args.high c.key_of.result (rank c.in-Some.parts.key) c.is_within.result c.is_within.ensures c.key_of.ensures) ∙ c.if-is_within.true)
     c.loop-index.invariant.adds c.in-Err.ensures.adds
+
+pub returns-in-Err-clause-page_out : goal.returns-in-Err-clause-page_out
+returns-in-Err-clause-page_out g c =
+    misses_rows (Unit {0}) (Unit {0}) g.S.Pages c.args.space.now c.loop-index.space c.push_row.new.space c.args.view.now.cells c.args.low c.args.high c.loop-index.index (cell_seen c.in-Some.parts) c.in-Err.fault
+    c.loop-index.invariant.kept c.in-Some.ensures
+    (sym (same_within c.args.low c.args.high c.key_of.result (rank c.in-Some.parts.key) c.is_within.result c.is_within.ensures c.key_of.ensures) ∙ c.if-is_within.true)
+    c.in-Err.ensures.page_out
 
 pub loop-index-preserved : goal.loop-index-preserved
 loop-index-preserved g c =

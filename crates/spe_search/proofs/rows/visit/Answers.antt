@@ -1,6 +1,7 @@
 use Rattle.spe_space.specs.Calls.{sight}
 use Rattle.spe_search.proofs.StepLemmas.{legal_same, shown_same, visit_of, visit_cause}
 use Rattle.spe_search.proofs.AddsLemmas.{visit_adds}
+use Rattle.spe_search.proofs.MissLemmas.{misses_visit}
 use Rattle.spe_search.proofs.rows.visit.Goals as goal
 
 pub returns-clause-visits : goal.returns-clause-visits
@@ -27,3 +28,10 @@ returns-clause-adds g c =
     (λ pages agrees. legal_same _ _ _ _ _ _ c.in-Ok.view c.usable-usable.ensures.value (c.in_ok-get.ensures.ok pages (c.look.ensures.kept.earlier pages agrees)) c.header_of.ensures.value c.in-Ok.ensures.legal)
     (λ pages agrees. shown_same _ _ _ _ _ _ c.in-Ok.view c.usable-usable.ensures.value (c.in_ok-get.ensures.ok pages (c.look.ensures.kept.earlier pages agrees)) c.header_of.ensures.value c.in-Ok.ensures.shown)
     c.look.ensures.adds
+
+pub returns-clause-page_out : goal.returns-clause-page_out
+returns-clause-page_out g c =
+    misses_visit g.S.Pages c.args.space.now c.get.new.self c.look.new.space c.args.page c.args.low c.args.high c.in-Ok.view c.look.result c.in_ok-get.ensures.used c.in_ok-get.ensures.laid
+    (λ pages agrees. legal_same _ _ _ _ _ _ c.in-Ok.view c.usable-usable.ensures.value (c.in_ok-get.ensures.ok pages (c.look.ensures.kept.earlier pages agrees)) c.header_of.ensures.value c.in-Ok.ensures.legal)
+    (λ pages agrees. shown_same _ _ _ _ _ _ c.in-Ok.view c.usable-usable.ensures.value (c.in_ok-get.ensures.ok pages (c.look.ensures.kept.earlier pages agrees)) c.header_of.ensures.value c.in-Ok.ensures.shown)
+    c.look.ensures.page_out

@@ -1,21 +1,9 @@
-use Rattle.std.proofs.Common.{refl}
-use Rattle.spe_serve.proofs.OutcomeLemmas.{is_outcome}
-use Rattle.spe_serve.proofs.RefusedLemmas.{leaves_same}
+use Rattle.std.proofs.Common.{◌≡◌, ap, Err}
+use Rattle.spe_serve.proofs.OutcomeLemmas.{is_asked}
 use Rattle.spe_serve.proofs.outcome.carry_out.Goals as goal
 
-pub returns-in-Ok-true-clause-outcome : goal.returns-in-Ok-true-clause-outcome
-returns-in-Ok-true-clause-outcome g c =
-    rw c.answered.ensures
-    (is_outcome _ _ _ _ _ _ _ _ _ (c.in-Some.ensures.asked.0 refl) (g.met.D.Disk.fresh c.args.disk.now c.requires) c.attach.ensures.same
-    (rw c.in-Ok-true.field-0-test at c.in-Ok-true.ensures.found)
-    (rw (c.as_slice.ensures, c.in-Some.ensures.table) at c.rows_reply.ensures.reply) c.rows_reply.ensures.about c.attach.ensures.cause.later
-    (rw c.attach.ensures.operations at c.rows_reply.ensures.cause.failed))
+pub returns-in-Ok-clause-outcome : goal.returns-in-Ok-clause-outcome
+returns-in-Ok-clause-outcome g c = is_asked c.args.words.now c.in-Ok.command _ _ c.obey.result c.in-Ok.ensures.command c.obey.ensures.outcome
 
-pub returns-in_default-clause-leaves : goal.returns-in_default-clause-leaves
-returns-in_default-clause-leaves g c = leaves_same (g.D.Disk.told c.args.disk.now)
-
-pub returns-in-Ok-false-clause-leaves : goal.returns-in-Ok-false-clause-leaves
-returns-in-Ok-false-clause-leaves g c = rw c.attach.ensures.same (leaves_same (g.D.Disk.told c.args.disk.now))
-
-pub returns-in-Err-clause-leaves : goal.returns-in-Err-clause-leaves
-returns-in-Err-clause-leaves g c = rw c.attach.ensures.same (leaves_same (g.D.Disk.told c.args.disk.now))
+pub returns-in-Err-Words-clause-outcome : goal.returns-in-Err-Words-clause-outcome
+returns-in-Err-Words-clause-outcome g c = c.in-Err-Words.ensures.none (ap Err c.in-Err-Words.field-0-is)

@@ -1,7 +1,7 @@
 use Rattle.std.proofs.Common.{◌≡◌, ◌≤◌, length, true}
 use Rattle.std.specs.List.{list_all}
 use Rattle.spe_serve.specs.Small.{is_among}
-use Rattle.spe_serve.specs.Stop.{WhereTold}
+use Rattle.spe_recover.specs.Told.{WhereTold}
 use Rattle.spe_serve.proofs.TablesLemmas.{IsSearched}
 use Rattle.spe_serve.proofs.small.read_tables.Given as goal
 

@@ -5,9 +5,6 @@ use Rattle.spe_core.specs.State.{live_in}
 use Rattle.spe_core.proofs.LivesLemmas.{absent_is, live_is, written_is}
 use Rattle.spe_core.proofs.lives.Lives.end.Goals as goal
 
-pair_is : {X Y : Type 0} (a : X) (b : Y) (x : X) (y : Y) → a ≡ x → b ≡ y → ◌≡◌ {A = X × Y} (a, b) (x, y)
-pair_is a b x y p q = cc
-
 pub returns-in_default-clause-ended : goal.returns-in_default-clause-ended
 returns-in_default-clause-ended c =
     ap (λ m. m.entries) c.get_mut.follows.holds-at-none ∙ absent_is c.args.id ended c.self.inside.map.entries (sym c.in_default.ensures.value)
@@ -29,4 +26,4 @@ pub returns-clause-left : goal.returns-clause-left
 returns-clause-left c =
     let at : live_in c.args.id c.args.self.now ≡ Some c.in-Some.t.now =
     ap (live_in c.args.id) (sym c.self.view_is) ∙ sym (live_is c.args.id c.self.inside.map.entries) ∙ sym c.in-Some.ensures.value in
-    rw at (ap Some (pair_is c.end.result.0 c.end.result.1 _ _ c.end.ensures.committed c.end.ensures.journalled))
+    rw at (ap Some c.end.ensures.journalled)

@@ -4,19 +4,20 @@ use Rattle.std.specs.BTreeMap.{is_at}
 use Rattle.std.specs.Map.{set_value}
 use Rattle.std.proofs.lemmas.Map.Steps.{set_value_same}
 use Rattle.std.proofs.lemmas.Result.{on_ok_weaker, on_err_weaker}
-use Rattle.spe_core.specs.Lives.{updated_in, with_saved}
+use Rattle.spe_core.specs.Lives.{updated_in}
 use Rattle.spe_core.proofs.LivesLemmas.{absent_is, written_is}
 use Rattle.spe_core.proofs.lives.Lives.note_journalled.Goals as goal
+use Rattle.spe_core.specs.Changed.{with_journalled}
 
 pub returns-in_default-clause-ok : goal.returns-in_default-clause-ok
 returns-in_default-clause-ok c =
-    let f = with_saved c.args.page c.args.bytes in
+    let f = with_journalled c.args.page c.args.bytes in
     ap (λ m. m.entries) c.get_mut.follows.holds-at-none ∙ absent_is c.args.id f c.self.inside.map.entries (sym c.in_default.ensures.value)
     ∙ ap (updated_in c.args.id f) c.self.view_is
 
 pub returns-clause-ok : goal.returns-clause-ok
 returns-clause-ok c =
-    let f = with_saved c.args.page c.args.bytes in
+    let f = with_journalled c.args.page c.args.bytes in
     let set = c.get_mut.follows.holds c.note_journalled.new.self in
     on_ok_weaker c.note_journalled.result
     (λ is. written_is c.args.id f c.self.inside.map.entries _ c.in-Some.t.now c.note_journalled.new.self c.self.invariant (sym c.in-Some.ensures.value) set.0 is

@@ -4,9 +4,10 @@ use Rattle.std.specs.BTreeMap.{is_at}
 use Rattle.std.specs.Map.{set_value}
 use Rattle.std.proofs.lemmas.Map.Steps.{set_value_same}
 use Rattle.std.proofs.lemmas.Result.{on_ok_weaker, on_err_weaker}
-use Rattle.spe_core.specs.Lives.{updated_in, with_seen}
+use Rattle.spe_core.specs.Lives.{updated_in}
 use Rattle.spe_core.proofs.LivesLemmas.{absent_is, written_is}
 use Rattle.spe_core.proofs.lives.Lives.note_seen.Goals as goal
+use Rattle.spe_core.specs.Changed.{with_seen}
 
 pub returns-in_default-clause-ok : goal.returns-in_default-clause-ok
 returns-in_default-clause-ok c =

@@ -10,9 +10,9 @@ use Rattle.spe_core.proofs.machine.Core.new.Goals as goal
 pub invariant_of-result : goal.invariant_of-result
 invariant_of-result c =
     let bytes = c.args.pages in
-    let files : c.in_ok-files.files ≡ alone bytes = c.in_ok-files.ensures ∙ ap alone (c.in_ok-from_slice.ensures.items ∙ c.as_slice-bytes.ensures) in
-    let is : opened bytes c.args.slots ≡ _ = sym (rw (files, c.new.ensures.items, c.new-2.ensures.items, c.new-3.ensures) refl) in
+    let files : c.in_ok-files.files ≡ alone bytes = c.in_ok-files.ensures ∙ ap alone c.into_vec.ensures in
+    let is : opened bytes c.args.slots ≡ _ = sym (rw (files, c.of-opening.ensures, c.new.ensures, c.new-2.ensures.items, c.new-3.ensures) refl) in
     record {
       sound = subst IsSound is (sound_opened bytes c.args.slots c.requires.opening);
-      count = c.named_count-count.ensures ∙ ap named_count c.as_slice-bytes.ensures ∙ (file_of bytes c.requires.opening).count ∙ ap count_of is;
+      count = c.named_count-count.ensures ∙ ap named_count c.as_slice.ensures ∙ (file_of bytes c.requires.opening).count ∙ ap count_of is;
     }

@@ -4,6 +4,7 @@ use Rattle.spe_model.specs.Content.{Content}
 use Rattle.spe_model.specs.Trace.{Operation, History, present}
 use Rattle.spe_disk.specs.Memory.{trace_of, history_of, first_files}
 use Rattle.spe_disk.proofs.JournalLemmas.{below_none, making_more, counting_more, making_failed}
+use Rattle.spe_disk.proofs.ListedLemmas.{made_more, made_none, made_failed}
 use Rattle.spe_disk.proofs.mem_disk.MemDiskDisk.make_journals.Goals as goal
 
 abbrev history_told : History → Option History
@@ -26,6 +27,7 @@ loop-number-init c =
       reads = refl;
       room = refl;
       disk = record { room = refl; limit = refl; faults = refl };
+      listed = made_none _ c.args.self.now none;
       counted = omega arith;
     }
 
@@ -49,6 +51,7 @@ loop-number-preserved c =
         limit = c.in-Ok.ensures.disk.limit ∙ c.loop-number.invariant.disk.limit;
         faults = c.in-Ok.ensures.disk.faults ∙ c.loop-number.invariant.disk.faults;
       };
+      listed = made_more content now c.loop-number.number c.args.self.now c.loop-number.self _ same c.loop-number.invariant.listed c.in-Ok.ensures.listed;
       counted = omega (arith, c.in-Ok.ensures.cause.later, c.loop-number.invariant.counted);
     }
 
@@ -61,3 +64,10 @@ returns-in-Err-clause-made c =
     let made = making_failed content now (trace_of c.args.self.now) (trace_of c.loop-number.self) (trace_of c.make_absent.new.self) c.loop-number.number some.0 some.1 c.loop-number-test.true same c.loop-number.invariant.trace some.2 some.3 in
     let first : first_files c.make_absent.new.self ≡ first_files c.args.self.now = c.in-Err.ensures.first ∙ c.loop-number.invariant.first in
     (made.0, made.1, made.2, same_history _ _ _ _ first made.3)
+
+pub returns-in-Err-clause-listed : goal.returns-in-Err-clause-listed
+returns-in-Err-clause-listed c =
+    let content = present (history_of c.args.self.now) in
+    let now = present (history_of c.loop-number.self) in
+    let same = c.loop-number.invariant.later c.loop-number.number (omega arith) in
+    made_failed content now c.loop-number.number c.args.self.now c.loop-number.self _ c.loop-number-test.true same c.loop-number.invariant.listed c.in-Err.ensures.failing

@@ -6,6 +6,7 @@ use Rattle.spe_model.specs.Trace.{present}
 use Rattle.spe_model.specs.Trace.Operation.{Cut}
 use Rattle.spe_disk.specs.Memory.{trace_of, first_files, history_of}
 use Rattle.spe_disk.proofs.JournalLemmas.{absent_is, there_is, other_file}
+use Rattle.spe_disk.proofs.ListedLemmas.{made_none, made_one, failed_one}
 use Rattle.spe_disk.proofs.StopLemmas.{made_last}
 use Rattle.spe_disk.proofs.memory.MemDisk.make_absent.Goals as goal
 
@@ -44,3 +45,18 @@ returns-in-Err-clause-some c =
       | inl same ↦ ([], c.args.number ∷ [], one, ap (λ o. (unwrap_or o (history_of c.args.self.now)).trace) same ∙ sym (append-nil (trace_of c.args.self.now)))
       | inr made ↦ (c.args.number ∷ [], [], one, ap (λ o. (unwrap_or o (history_of c.args.self.now)).trace) made)
     ]
+
+pub returns-then-is_some-clause-listed : goal.returns-then-is_some-clause-listed
+returns-then-is_some-clause-listed c =
+    let there : is_none (file_of (present (history_of c.args.self.now)) (Journal c.args.number)) ≡ false = search rules in
+    made_none _ c.args.self.now (there_is _ c.args.number there)
+
+pub returns-in-Ok-clause-listed : goal.returns-in-Ok-clause-listed
+returns-in-Ok-clause-listed c =
+    let gone : is_none (file_of (present (history_of c.args.self.now)) (Journal c.args.number)) ≡ true = search rules in
+    made_one _ c.args.number c.args.self.now c.cut.new.self (absent_is _ c.args.number gone) c.in-Ok.ensures.listed
+
+pub returns-in-Err-clause-failing : goal.returns-in-Err-clause-failing
+returns-in-Err-clause-failing c =
+    let gone : is_none (file_of (present (history_of c.args.self.now)) (Journal c.args.number)) ≡ true = search rules in
+    failed_one _ c.args.number c.args.self.now c.cut.new.self (absent_is _ c.args.number gone) c.in-Err.ensures.listed

@@ -1,0 +1,6 @@
+mod build;
+mod order;
+mod refusals;
+mod replies;
+mod run;
+mod steps;

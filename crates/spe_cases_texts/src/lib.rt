@@ -1,0 +1,5 @@
+//! Tests of texts that are read: statements.
+#![tactic(auto)]
+
+#[cfg(test)]
+mod tests;

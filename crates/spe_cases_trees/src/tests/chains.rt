@@ -1,0 +1,234 @@
+//! Chains of overflow pages, read by themselves.
+
+ghost use Rattle.std.specs.Prelude.{◌≡◌, IfOk, None};
+ghost use Rattle.spe_space.specs.View.{map_refusal};
+
+use crate::tests::long::payload_of;
+use crate::tests::space::{Filling, lay};
+use spe_space::{MapSpace, SpaceFault, TreeFault, read_chain};
+use std::alloc::{AllocError, Global};
+use std::process::Abort;
+use std::test::Fail;
+
+#[derive(Clone, Copy, Debug, PartialEq, Eq)]
+enum Answer {
+    Well,
+    Corrupt(u32),
+    // There is no such page; there are five.
+    Out(u32),
+    Other,
+}
+
+// A chain in five pages of 512 bytes.
+struct Chain {
+    name: &'static str,
+    bytes: u32,
+    first: u32,
+    // Its pages in order, and the page that the last of them names.
+    order: &'static [u32],
+    last: u32,
+    answer: Answer,
+}
+
+static CHAINS: [Chain; 16] = [
+    Chain {
+        name: "no bytes",
+        bytes: 0,
+        first: 0,
+        order: &[],
+        last: 0,
+        answer: Answer::Well,
+    },
+    Chain {
+        name: "one byte",
+        bytes: 1,
+        first: 5,
+        order: &[5],
+        last: 0,
+        answer: Answer::Well,
+    },
+    Chain {
+        name: "one page, exactly full",
+        bytes: 508,
+        first: 3,
+        order: &[3],
+        last: 0,
+        answer: Answer::Well,
+    },
+    Chain {
+        name: "one byte on a second page",
+        bytes: 509,
+        first: 4,
+        order: &[4, 2],
+        last: 0,
+        answer: Answer::Well,
+    },
+    Chain {
+        name: "two full pages",
+        bytes: 1016,
+        first: 2,
+        order: &[2, 5],
+        last: 0,
+        answer: Answer::Well,
+    },
+    Chain {
+        name: "page 1 among them",
+        bytes: 1017,
+        first: 3,
+        order: &[3, 1, 2],
+        last: 0,
+        answer: Answer::Well,
+    },
+    Chain {
+        name: "no first page",
+        bytes: 1,
+        first: 0,
+        order: &[],
+        last: 0,
+        answer: Answer::Corrupt(0),
+    },
+    Chain {
+        name: "a first page for nothing",
+        bytes: 0,
+        first: 3,
+        order: &[3],
+        last: 0,
+        answer: Answer::Corrupt(3),
+    },
+    Chain {
+        name: "the first page is the last",
+        bytes: 509,
+        first: 3,
+        order: &[3],
+        last: 0,
+        answer: Answer::Corrupt(3),
+    },
+    Chain {
+        name: "the second page is the last",
+        bytes: 1017,
+        first: 3,
+        order: &[3, 5],
+        last: 0,
+        answer: Answer::Corrupt(5),
+    },
+    Chain {
+        name: "a full page that goes on",
+        bytes: 508,
+        first: 3,
+        order: &[3],
+        last: 4,
+        answer: Answer::Corrupt(3),
+    },
+    Chain {
+        name: "a second page that goes on",
+        bytes: 509,
+        first: 3,
+        order: &[3, 4],
+        last: 5,
+        answer: Answer::Corrupt(4),
+    },
+    // The page after is not asked for.
+    Chain {
+        name: "a last page that names none there is",
+        bytes: 508,
+        first: 3,
+        order: &[3],
+        last: 6,
+        answer: Answer::Corrupt(3),
+    },
+    Chain {
+        name: "a first page past the last",
+        bytes: 1,
+        first: 6,
+        order: &[],
+        last: 0,
+        answer: Answer::Out(6),
+    },
+    Chain {
+        name: "a second page past the last",
+        bytes: 509,
+        first: 3,
+        order: &[3],
+        last: 6,
+        answer: Answer::Out(6),
+    },
+    Chain {
+        name: "the greatest number",
+        bytes: 1017,
+        first: 3,
+        order: &[3, 4],
+        last: 4294967295,
+        answer: Answer::Out(4294967295),
+    },
+];
+
+fn space_of(alloc: Global, chain: &Chain, payload: &[u8]) -> Result<MapSpace, AllocError>
+    ensures { IfOk result (λ s. map_refusal s ≡ None) }
+{
+    let mut filling = Filling::new(alloc, false, 5)?;
+    let mut left = payload;
+    for (i, page) in chain.order.iter().enumerate() {
+        let mut bytes = vec![in alloc; 0u8; 512]?;
+        let (here, rest) = left.split_at(left.len().min(508));
+        let next = chain.order.get(i.wrapping_add(1)).unwrap_or(&chain.last);
+        lay(&mut bytes, 0, &next.to_be_bytes());
+        lay(&mut bytes, 4, here);
+        filling.load(*page, &bytes);
+        left = rest;
+    }
+    Ok(filling.into_space())
+}
+
+fn answer_of(alloc: Global, chain: &Chain) -> Result<Answer, AllocError> {
+    let payload = payload_of(alloc, chain.bytes)?;
+    let mut space = space_of(alloc, chain, &payload)?;
+    Ok(
+        match read_chain(alloc, &mut space, chain.first, u64::from(chain.bytes)) {
+            Ok(bytes) if bytes.as_slice() == payload.as_slice() => Answer::Well,
+            Err(TreeFault::Corrupt { page }) => Answer::Corrupt(page),
+            Err(TreeFault::Space(SpaceFault::PageOut { page, pages: 5 })) => Answer::Out(page),
+            _ => Answer::Other,
+        },
+    )
+}
+
+fn expect_chain(rt: &impl Abort, alloc: Global, chain: &Chain) -> Result<(), AllocError> {
+    let answer = answer_of(alloc, chain)?;
+    assert_eq!(rt; answer, chain.answer, "{}", chain.name);
+    Ok(())
+}
+
+#[test]
+fn chains(rt: HostRuntime) -> Result<(), Fail> {
+    for chain in &CHAINS {
+        expect_chain(&rt, rt.alloc(), chain)?;
+    }
+    Ok(())
+}
+
+// The pages after page 1 hold a million bytes, one after the other; the last of the 1969 has 256.
+fn expect_million(rt: &impl Abort, alloc: Global) -> Result<(), AllocError> {
+    let payload = payload_of(alloc, 1_000_000)?;
+    let mut filling = Filling::new(alloc, false, 1970)?;
+    let mut page: u32 = 2;
+    for here in payload.chunks(508) {
+        let mut bytes = vec![in alloc; 0u8; 512]?;
+        let next = if page < 1970 { page.wrapping_add(1) } else { 0 };
+        lay(&mut bytes, 0, &next.to_be_bytes());
+        lay(&mut bytes, 4, here);
+        filling.load(page, &bytes);
+        page = next;
+    }
+    let mut space = filling.into_space();
+    match read_chain(alloc, &mut space, 2, 1_000_000) {
+        Ok(bytes) => assert!(rt; bytes.as_slice() == payload.as_slice(), "a million bytes"),
+        Err(fault) => assert!(rt; false, "{fault:?}"),
+    }
+    Ok(())
+}
+
+#[test]
+fn million(rt: HostRuntime) -> Result<(), Fail> {
+    expect_million(&rt, rt.alloc())?;
+    Ok(())
+}

@@ -1,0 +1,10 @@
+mod ConstraintLemmas
+mod ColumnsLemmas
+mod DeclarationLemmas
+mod TextLemmas
+mod NamesLemmas
+mod DistinctLemmas
+mod TableLemmas
+mod ReadingLemmas
+mod LeafLemmas
+mod ReaderLemmas

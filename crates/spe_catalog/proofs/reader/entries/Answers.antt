@@ -1,0 +1,37 @@
+use Rattle.std.proofs.Common.{List, [], ◌∷◌, refl, ◌∙◌, arith}
+use Rattle.std.specs.declared.vec.Vec.{Vec}
+use Rattle.std.specs.declared.alloc.Global.{Global}
+use Rattle.spe_model.specs.declared.catalog.Entry.{Entry}
+use Rattle.spe_model.specs.Schema.{is_index_page}
+use Rattle.spe_space.specs.Calls.{sight, reads_both}
+use Rattle.spe_catalog.specs.Reader.{tables_of}
+use Rattle.spe_catalog.proofs.ReadingLemmas.{front_is}
+use Rattle.spe_catalog.proofs.ReaderLemmas.{answers_fault, made_more, made_end, row_number}
+use Rattle.spe_catalog.proofs.reader.entries.Goals as goal
+
+pub returns-in-Err-clause-made : goal.returns-in-Err-clause-made
+returns-in-Err-clause-made g c = λ pages agrees all attaches numbers.
+    let before = c.loop-left.invariant.made pages (c.in-Err.ensures.kept.earlier pages agrees) all attaches numbers in
+    let front = front_is c.loop-left.left.now c.row-item.result _ (omega (arith, c.in-len1-up.len_at_least)) c.row-item.is refl in
+    answers_fault (Vec Entry Global) (List Entry) (λ v. v.items) (tables_of (is_index_page (sight g.S.Pages c.args.space.now pages)) all c.args.rows.now)
+    (tables_of (is_index_page (sight g.S.Pages c.loop-left.space pages)) all (c.row-item.result ∷ [])) c.loop-left.found.items c.push_entry.new.out.items c.in-Err.fault
+    (c.in-Err.ensures.made pages agrees all attaches (row_number c.loop-left.left.now _ c.row-item.result front before.0))
+
+pub loop-left-preserved : goal.loop-left-preserved
+loop-left-preserved g c = record {
+  kept = reads_both g.S.Pages c.args.space.now c.loop-left.space c.push_entry.new.space c.loop-left.invariant.kept c.in-Ok.ensures.kept;
+  refusal = c.in-Ok.ensures.refusal ∙ c.loop-left.invariant.refusal;
+  buf = omega (arith, c.push_entry.auto.buf, c.loop-left.invariant.buf);
+  made = λ pages agrees all attaches numbers.
+      made_more (is_index_page (sight g.S.Pages c.args.space.now pages)) all c.loop-left.left.now _ c.row-item.result c.loop-left.found.items c.push_entry.new.out.items
+      (tables_of (is_index_page (sight g.S.Pages c.args.space.now pages)) all c.args.rows.now)
+      (front_is c.loop-left.left.now c.row-item.result _ (omega (arith, c.in-len1-up.len_at_least)) c.row-item.is refl)
+      (c.loop-left.invariant.made pages (c.in-Ok.ensures.kept.earlier pages agrees) all attaches numbers)
+      (λ number. rw c.loop-left.invariant.kept.laid at (c.in-Ok.ensures.made pages agrees all attaches number));
+}
+
+pub returns-clause-made : goal.returns-clause-made
+returns-clause-made g c = λ pages agrees all attaches numbers.
+    made_end (is_index_page (sight g.S.Pages c.args.space.now pages)) all c.loop-left.left.now c.loop-left.found.items
+    (tables_of (is_index_page (sight g.S.Pages c.args.space.now pages)) all c.args.rows.now) (omega (arith, c.in_default.len_below))
+    (c.loop-left.invariant.made pages agrees all attaches numbers).1

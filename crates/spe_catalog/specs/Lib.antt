@@ -1,0 +1,10 @@
+pub mod Miss
+pub mod Text
+pub mod Constraint
+pub mod Columns
+pub mod Row
+pub mod Table
+pub mod Names
+pub mod Reading
+pub mod Leaf
+pub mod Reader

@@ -1,0 +1,8 @@
+-- Sets of names.
+use Rattle.std.specs.Prelude.{ℕ, Bool, List}
+use Rattle.std.specs.List.{list_any}
+use Rattle.std.specs.Str.{bytes_eq, str_to_ascii_lowercase}
+
+-- names, in small ASCII letters, of which one agrees with this name
+abbrev pub has_name : List (List ℕ) → List ℕ → Bool
+has_name names name = list_any (bytes_eq (str_to_ascii_lowercase name)) names

@@ -1,0 +1,178 @@
+//! The catalog of pages.
+
+ghost use Rattle.std.specs.Prelude.{◌≡◌, ℕ, Err, None, length};
+ghost use Rattle.spe_space.specs.Calls.{Reads, RefusesTree};
+ghost use Rattle.spe_model.specs.Schema.{is_index_kind};
+ghost use Rattle.spe_model.specs.Kind.{kind_of};
+ghost use Rattle.spe_catalog.specs.Reader.{TellsKind, TellsRoot, MakesEntry, PushesEntry, MakesEntries, MakesCatalog, FindsCatalog, NamesSchema, NamesLeaf};
+
+use crate::leaves::{header_of, leaf};
+use crate::reading::{Reading, is_table, read_rows, root_of};
+use crate::schema::SchemaRow;
+use crate::table::{Attached, table_of};
+use spe_model::{Catalog, Entry};
+use spe_search::range;
+use spe_space::{Pages, TreeFault};
+use std::alloc::Global;
+
+// Whether a type byte is that of a page of an index.
+#[tactic(auto, unfolding(spe_model::specs::Kind::kind_of))]
+fn is_index_byte(byte: u8) -> bool
+    ensures { result ≡ is_index_kind (kind_of byte) }
+{
+    matches!(byte, 2 | 10)
+}
+
+// Gets a page, and says whether it is one of an index.
+fn is_index_page<S: Pages>(space: &mut S, page: u32, buf: &mut [u8]) -> Result<bool, TreeFault>
+    requires { length buf.old ≡ S.Pages.size space.old }
+    ensures kind { TellsKind S.Pages space.old space.new page result }
+    ensures kept { Reads S.Pages space.old space.new }
+    ensures refusal { RefusesTree S.Pages space.old space.new result }
+{
+    let _size = space.page_size();
+    space.get(page, buf)?;
+    Ok(is_index_byte(buf[header_of(page)]))
+}
+
+// Whether there is a root page, and it is no page of an index.
+fn is_rooted<S: Pages>(space: &mut S, root: u32, buf: &mut [u8]) -> Result<bool, TreeFault>
+    requires { length buf.old ≡ S.Pages.size space.old }
+    ensures rooted { TellsRoot S.Pages space.old space.new root result }
+    ensures kept { Reads S.Pages space.old space.new }
+    ensures refusal { RefusesTree S.Pages space.old space.new result }
+{
+    if root == 0 {
+        return Ok(false);
+    }
+    match is_index_page(space, root, buf) {
+        Ok(is_index) => Ok(!is_index),
+        Err(fault) => Err(fault),
+    }
+}
+
+// The table of a row, and its root.
+fn make_entry<S: Pages>(
+    alloc: Global,
+    space: &mut S,
+    attached: &Attached,
+    row: &SchemaRow,
+    buf: &mut [u8],
+) -> Result<Entry, TreeFault>
+    requires size { length buf.old ≡ S.Pages.size space.old }
+    ensures made { MakesEntry S.Pages space.old space.new attached.now row.now result }
+    ensures kept { Reads S.Pages space.old space.new }
+    ensures refusal { RefusesTree S.Pages space.old space.new result }
+{
+    let root = root_of(row).unwrap_or(0);
+    let rooted = match is_rooted(space, root, buf) {
+        Ok(rooted) => rooted,
+        Err(fault) => return Err(fault),
+    };
+    let table = table_of(alloc, attached, rooted, row)?;
+    Ok(Entry { table, root })
+}
+
+// Pushes the table of a row, where it names one.
+fn push_entry<S: Pages>(
+    alloc: Global,
+    space: &mut S,
+    attached: &Attached,
+    row: &SchemaRow,
+    buf: &mut [u8],
+    out: &mut Vec<Entry>,
+) -> Result<(), TreeFault>
+    requires size { length buf.old ≡ S.Pages.size space.old }
+    ensures made { PushesEntry S.Pages space.old space.new attached.now row.now out.old.items out.new.items result }
+    ensures kept { Reads S.Pages space.old space.new }
+    ensures refusal { RefusesTree S.Pages space.old space.new result }
+{
+    if !is_table(row) {
+        return Ok(());
+    }
+    match make_entry(alloc, space, attached, row, buf) {
+        Ok(entry) => out.push(entry)?,
+        Err(fault) => return Err(fault),
+    }
+    Ok(())
+}
+
+// The tables of some rows.
+fn entries<S: Pages>(
+    alloc: Global,
+    space: &mut S,
+    attached: &Attached,
+    rows: &[SchemaRow],
+    buf: &mut [u8],
+) -> Result<Vec<Entry>, TreeFault>
+    requires size { length buf.old ≡ S.Pages.size space.old }
+    ensures made { MakesEntries S.Pages space.old space.new attached.now rows.now (λ v. v.items) result }
+    ensures kept { Reads S.Pages space.old space.new }
+    ensures refusal { RefusesTree S.Pages space.old space.new result }
+{
+    let mut found = Vec::new(alloc);
+    let mut left = rows;
+    while let [row, rest @ ..] = left {
+        match push_entry(alloc, space, attached, row, buf, &mut found) {
+            Ok(()) => (),
+            Err(fault) => return Err(fault),
+        }
+        left = rest;
+    }
+    Ok(found)
+}
+
+// The catalog of these rows.
+fn catalog_of<S: Pages>(
+    alloc: Global,
+    space: &mut S,
+    rows: &[SchemaRow],
+) -> Result<Catalog, TreeFault>
+    ensures made { MakesCatalog S.Pages space.old space.new rows.now result }
+    ensures kept { Reads S.Pages space.old space.new }
+    ensures refusal { RefusesTree S.Pages space.old space.new result }
+{
+    let attached = Attached::new(alloc, rows)?;
+    let mut buf = vec![in alloc; 0u8; space.page_size() as usize]?;
+    match entries(alloc, space, &attached, rows, buf.as_mut_slice()) {
+        Ok(found) => Ok(Catalog::new(found)),
+        Err(fault) => Err(fault),
+    }
+}
+
+// Corrupt of the leaf of a row of the schema.
+fn damage<S: Pages>(alloc: Global, space: &mut S, rowid: i64) -> TreeFault
+    requires { S.Pages.refusal space.old ≡ None }
+    ensures named { NamesLeaf S.Pages space.old space.new rowid result }
+    ensures kept { Reads S.Pages space.old space.new }
+    ensures refusal { RefusesTree {X = ℕ} S.Pages space.old space.new (Err result) }
+{
+    match leaf(alloc, space, 1, rowid) {
+        Ok(page) => TreeFault::Corrupt { page },
+        Err(fault) => fault,
+    }
+}
+
+/// The tables that the schema of the pages names, open and closed, in the order of their rows.
+///
+/// Each page of the schema's tree is got once, and then the root page of each table. Corrupt is as of
+/// `range`, or names the leaf of a schema row whose record is no schema record, whose name is that of a
+/// table before it, or whose root page has a number past 32 bits; to find that leaf one page is got a
+/// level. ("Storage Of The SQL Database Schema" in SQLite's Database File Format; which tables are open
+/// is this project's own.)
+pub fn read_catalog<S: Pages>(alloc: Global, space: &mut S) -> Result<Catalog, TreeFault>
+    requires { S.Pages.refusal space.old ≡ None }
+    ensures found { FindsCatalog S.Pages space.old space.new result }
+    ensures damage { NamesSchema S.Pages space.old space.new result }
+    ensures kept { Reads S.Pages space.old space.new }
+    ensures refusal { RefusesTree S.Pages space.old space.new result }
+{
+    let pairs = match range(alloc, space, 1, i64::MIN, i64::MAX) {
+        Ok(pairs) => pairs,
+        Err(fault) => return Err(fault),
+    };
+    match read_rows(alloc, pairs.as_slice())? {
+        Reading::Rows(rows) => catalog_of(alloc, space, rows.as_slice()),
+        Reading::Damage(rowid) => Err(damage(alloc, space, rowid)),
+    }
+}

@@ -1,0 +1,85 @@
+//! The rows of the schema table, read one after the other.
+
+ghost use Rattle.std.specs.Prelude.{◌≡◌, ◌<◌, ◌^◌, IfOk, SomeIff, map};
+ghost use Rattle.spe_model.specs.Schema.{is_table_row, root_of, schema_row_of};
+ghost use Rattle.spe_search.specs.Pairs.{pair_seen};
+ghost use Rattle.spe_catalog.specs.Reading.{Joins, Reads};
+ghost use Rattle.spe_catalog.specs.declared.reading.Reading.TheVariants.{Damage};
+
+use crate::names::NameSet;
+use crate::schema::{SchemaRow, schema_row};
+use spe_search::Pair;
+use std::alloc::{AllocError, Global};
+
+/// What rows of the schema table say.
+#[derive(Debug, Drop)]
+pub enum Reading {
+    /// All rows, which are in order.
+    Rows(Vec<SchemaRow>),
+    /// The rowid of the first that is not: its record is no schema record, its name is that of a table
+    /// before it, or its root page has a number past 32 bits.
+    Damage(i64),
+}
+
+/// Whether a row names a table.
+pub fn is_table(row: &SchemaRow) -> bool
+    ensures { result ≡ is_table_row row.now }
+{
+    row.kind().as_slice() == b"table".as_slice()
+}
+
+/// The page of a row's root, or 0 where there is none. `None` where its number is past 32 bits.
+pub fn root_of(row: &SchemaRow) -> Option<u32>
+    ensures { SomeIff result (root_of row.now.rootpage < 2 ^ 32) (root_of row.now.rootpage) }
+{
+    match row.rootpage() {
+        Some(number) if number > 0 => u32::try_from(number).ok(),
+        _ => Some(0),
+    }
+}
+
+// Whether a row may stand behind others, the names of whose tables it joins.
+fn joins(alloc: Global, names: &mut NameSet, row: &SchemaRow) -> Result<bool, AllocError>
+    ensures { IfOk result (Joins row.now names.old names.new) }
+{
+    if !is_table(row) {
+        return Ok(true);
+    }
+    if root_of(row).is_none() {
+        return Ok(false);
+    }
+    names.insert(alloc, row.name().as_str())
+}
+
+// The schema row of a row.
+fn row_of(alloc: Global, pair: &Pair) -> Result<Option<SchemaRow>, AllocError>
+    ensures { IfOk result (λ row. row ≡ schema_row_of (pair_seen pair.now)) }
+{
+    schema_row(alloc, pair.rowid, pair.payload.as_slice())
+}
+
+fn damage_at(pair: &Pair) -> Reading
+    ensures { result ≡ Damage pair.now.rowid }
+{
+    Reading::Damage(pair.rowid)
+}
+
+/// What these rows say.
+pub fn read_rows(alloc: Global, pairs: &[Pair]) -> Result<Reading, AllocError>
+    ensures { IfOk result (Reads (map pair_seen pairs.now)) }
+{
+    let mut names = NameSet::new(alloc);
+    let mut rows = Vec::new(alloc);
+    let mut left = pairs;
+    while let [pair, rest @ ..] = left {
+        let Some(row) = row_of(alloc, pair)? else {
+            return Ok(damage_at(pair));
+        };
+        if !joins(alloc, &mut names, &row)? {
+            return Ok(damage_at(pair));
+        }
+        rows.push(row)?;
+        left = rest;
+    }
+    Ok(Reading::Rows(rows))
+}

@@ -1,0 +1,7 @@
+pub mod Part
+pub mod Word
+pub mod Number
+pub mod Clause
+pub mod Grammar
+pub mod Gives
+pub mod Answer

@@ -1,0 +1,6 @@
+pub mod GivesLemmas
+pub mod TextLemmas
+pub mod ReadLemmas
+pub mod ValueReads
+pub mod ReplyReads
+pub mod OutcomeReads

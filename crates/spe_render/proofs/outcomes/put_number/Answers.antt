@@ -1,0 +1,5 @@
+use Rattle.spe_render.proofs.GivesLemmas.{then}
+use Rattle.spe_render.proofs.outcomes.put_number.Goals as goal
+
+pub returns : goal.returns
+returns g c = then c.bytes.ensures c.number.ensures

@@ -1,0 +1,5 @@
+use Rattle.spe_render.proofs.GivesLemmas.{then}
+use Rattle.spe_render.proofs.outcomes.put_outcome.Goals as goal
+
+pub returns : goal.returns
+returns g c = then (then c.put_number.ensures c.put_ending.ensures) c.byte.ensures

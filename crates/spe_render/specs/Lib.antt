@@ -1,0 +1,5 @@
+pub mod Values
+pub mod Replies
+pub mod Outcomes
+pub mod Gives
+pub mod Law

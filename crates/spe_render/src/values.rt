@@ -1,0 +1,128 @@
+//! The text of values and of rows of a table.
+
+ghost use Rattle.std.specs.Prelude.{◌≡◌, ◌∷◌, []};
+ghost use Rattle.hex.specs.Hex.{encode_lower};
+ghost use Rattle.spe_render.specs.Gives.{Gives};
+ghost use Rattle.spe_render.specs.Values.{barred, barred_value, joined, quoted, quoted_byte, row_text, rows_text, value_text};
+
+use crate::printer::Printer;
+use spe_disk::Sink;
+use spe_model::{Value, Values};
+
+// Prints a byte of a text, a quote doubled.
+fn put_quoted_byte<W: Sink>(out: &mut Printer, sink: &mut W, byte: u8)
+    ensures { Gives (W.taken sink.old) (W.taken sink.new) (W.faults sink.old) (W.faults sink.new) out.old out.new (quoted_byte byte) }
+{
+    if byte == b'\'' {
+        out.bytes(sink, b"''");
+    } else {
+        out.byte(sink, byte);
+    }
+}
+
+// Prints a text with each quote doubled.
+fn put_quoted<W: Sink>(out: &mut Printer, sink: &mut W, text: &[u8])
+    ensures { Gives (W.taken sink.old) (W.taken sink.new) (W.faults sink.old) (W.faults sink.new) out.old out.new (quoted text.now) }
+{
+    let mut left = text;
+    while let [byte, rest @ ..] = left {
+        put_quoted_byte(out, sink, *byte);
+        left = rest;
+    }
+}
+
+// Prints the two hexadecimal digits of a byte.
+fn put_hex_byte<W: Sink>(out: &mut Printer, sink: &mut W, byte: u8)
+    ensures { Gives (W.taken sink.old) (W.taken sink.new) (W.faults sink.old) (W.faults sink.new) out.old out.new (encode_lower (byte ∷ [])) }
+{
+    let mut digits = [0; 2];
+    if hex::encode_to_slice([byte], &mut digits).is_err() {
+        unreachable!();
+    }
+    out.bytes(sink, &digits);
+}
+
+// Prints the hexadecimal digits of bytes.
+fn put_hex<W: Sink>(out: &mut Printer, sink: &mut W, bytes: &[u8])
+    ensures { Gives (W.taken sink.old) (W.taken sink.new) (W.faults sink.old) (W.faults sink.new) out.old out.new (encode_lower bytes.now) }
+{
+    let mut left = bytes;
+    while let [byte, rest @ ..] = left {
+        put_hex_byte(out, sink, *byte);
+        left = rest;
+    }
+}
+
+fn put_value<W: Sink>(out: &mut Printer, sink: &mut W, value: &Value)
+    ensures { Gives (W.taken sink.old) (W.taken sink.new) (W.faults sink.old) (W.faults sink.new) out.old out.new (value_text value.now) }
+{
+    match value {
+        Value::Null => out.bytes(sink, b"NULL"),
+        Value::Int(number) => out.signed(sink, *number),
+        Value::Text(text) => {
+            out.byte(sink, b'\'');
+            put_quoted(out, sink, text.as_slice());
+            out.byte(sink, b'\'');
+        }
+        Value::Blob(bytes) => {
+            out.bytes(sink, b"x'");
+            put_hex(out, sink, bytes.as_slice());
+            out.byte(sink, b'\'');
+        }
+        Value::Real8(bytes) => {
+            out.bytes(sink, b"r'");
+            put_hex(out, sink, bytes);
+            out.byte(sink, b'\'');
+        }
+    }
+}
+
+// Prints a value behind a bar.
+fn put_barred_value<W: Sink>(out: &mut Printer, sink: &mut W, value: &Value)
+    ensures { Gives (W.taken sink.old) (W.taken sink.new) (W.faults sink.old) (W.faults sink.new) out.old out.new (barred_value value.now) }
+{
+    out.byte(sink, b'|');
+    put_value(out, sink, value);
+}
+
+// Prints values, each behind a bar.
+fn put_barred<W: Sink>(out: &mut Printer, sink: &mut W, values: &[Value])
+    ensures { Gives (W.taken sink.old) (W.taken sink.new) (W.faults sink.old) (W.faults sink.new) out.old out.new (barred values.now) }
+{
+    let mut left = values;
+    while let [value, rest @ ..] = left {
+        put_barred_value(out, sink, value);
+        left = rest;
+    }
+}
+
+/// Prints values with bars between them.
+pub fn put_joined<W: Sink>(out: &mut Printer, sink: &mut W, values: &[Value])
+    ensures { Gives (W.taken sink.old) (W.taken sink.new) (W.faults sink.old) (W.faults sink.new) out.old out.new (joined values.now) }
+{
+    if let [value, rest @ ..] = values {
+        put_value(out, sink, value);
+        put_barred(out, sink, rest);
+    }
+}
+
+// Prints the line of a row.
+fn put_row<W: Sink>(out: &mut Printer, sink: &mut W, row: &(i64, Values))
+    ensures { Gives (W.taken sink.old) (W.taken sink.new) (W.faults sink.old) (W.faults sink.new) out.old out.new (row_text row.now) }
+{
+    let (rowid, values) = row;
+    out.signed(sink, *rowid);
+    put_barred(out, sink, values.as_slice());
+    out.byte(sink, b'\n');
+}
+
+/// Prints a line for each row of a table: its rowid, and each value behind a bar.
+pub fn put_rows<W: Sink>(out: &mut Printer, sink: &mut W, rows: &[(i64, Values)])
+    ensures { Gives (W.taken sink.old) (W.taken sink.new) (W.faults sink.old) (W.faults sink.new) out.old out.new (rows_text rows.now) }
+{
+    let mut left = rows;
+    while let [row, rest @ ..] = left {
+        put_row(out, sink, row);
+        left = rest;
+    }
+}
