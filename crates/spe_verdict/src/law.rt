@@ -1,0 +1,33 @@
+//! The law of verdicts.
+
+ghost use Rattle.spe_verdict.specs.Law.{
+  BrokenIsTrue,
+  LegalStandingAreUnbroken,
+  LegalUnbrokenStand,
+  StandForOne,
+  StandingAreUnbroken,
+  StandsIsTrue,
+  UnbrokenStand,
+  VerdictCounts,
+};
+
+/// No rule of the walk is broken exactly where the pages stand for a database, and there is one such database
+/// at most.
+pub fn verdict_law()
+    ensures sound { UnbrokenStand }
+    ensures complete { StandingAreUnbroken }
+    ensures one { StandForOne }
+{}
+
+/// A verdict tells whether there is such a database, and counts what it has.
+pub fn counts_law()
+    ensures counts { VerdictCounts }
+    ensures stands { StandsIsTrue }
+    ensures broken { BrokenIsTrue }
+{}
+
+/// The law of verdicts for pages that begin with a legal header, which says how many bytes of each page are used.
+pub fn legal_law()
+    ensures sound { LegalUnbrokenStand }
+    ensures complete { LegalStandingAreUnbroken }
+{}
