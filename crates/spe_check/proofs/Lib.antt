@@ -1,0 +1,9 @@
+pub mod GivenLemmas
+pub mod TriesLemmas
+pub mod MarkLemmas
+pub mod ShownLemmas
+pub mod ChainLemmas
+pub mod FoundLemmas
+pub mod PageLemmas
+pub mod TrunkLemmas
+pub mod IndexLemmas

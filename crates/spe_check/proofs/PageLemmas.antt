@@ -1,0 +1,118 @@
+use Rattle.std.proofs.Common.{◌≡◌, ◌∙◌, ℕ, zero, suc, ◌<◌, ◌==◌, ◌&&◌, ◌||◌, Bool, true, false, not, List, [], ◌∷◌, ◌++◌, take, refl, sym, ap, subst, arith, Option, Some, None}
+use Rattle.std.specs.Prelude.{Result, Ok, Err}
+use Rattle.spe_model.specs.declared.page.Kind.{Kind}
+use Rattle.spe_model.specs.declared.page.PageCells.{PageCells}
+use Rattle.spe_model.specs.declared.page.PageFault.{PageFault}
+use Rattle.spe_model.specs.Kind.{is_leaf}
+use Rattle.spe_model.specs.Page.{page_at}
+use Rattle.spe_model.specs.Paging.{Paging}
+use Rattle.spe_model.specs.Tree.{node_at, header_end}
+use Rattle.spe_model.specs.Walk.{Mark, Names, Keeps, is_legal, has_kind, is_leaf_page, is_sort, levels_at_leaf, page_marks}
+use Rattle.spe_check.specs.declared.stop.Stop.{Stop}
+use Rattle.spe_check.specs.declared.stop.Stop.TheVariants.{Broken, Space}
+use Rattle.std.specs.Prelude.{IfOk}
+use Rattle.spe_model.specs.declared.page.PageFault.TheVariants.{BadType, OffsetOut, CellOut, Overlap, OutOfOrder, Memory}
+use Rattle.spe_format.specs.Answers.{Fails}
+use Rattle.spe_space.specs.declared.fault.SpaceFault.{SpaceFault}
+use Rattle.spe_space.specs.declared.pages.Pages.{Ghosts}
+use Rattle.spe_space.specs.Outcome.{refusal_of}
+use Rattle.spe_check.specs.Pages.{is_of_sort, is_placed, stands_well, IsStand, IsStopOf, IsReading, place_marks, read_marks}
+use Rattle.spe_check.specs.Shown.{RefusesStop}
+use Rattle.spe_check.specs.Tries.{Breaks, Tries}
+use Rattle.spe_check.proofs.TriesLemmas.{tries_then, tries_stop, keeps_passes, the_ok, the_err}
+
+eq_self : (n : ℕ) → (n == n) ≡ true
+eq_self n = grind arith
+
+at_first : (levels stand : ℕ) (kind : Kind) (b : Bool) → is_leaf kind ≡ b → (b ≡ true → stand ≡ levels) → true ≡ (not (is_leaf kind) || (levels == stand))
+at_first levels stand kind true is same = rw (is, same refl, eq_self levels) refl
+at_first levels stand kind false is same = rw is refl
+
+and_true : (b x : Bool) → true ≡ x → b ≡ (b && x)
+and_true true x e = e
+and_true false x e = refl
+
+-- the first leaf says where the others stand
+pub placed_is : (leaf : Option ℕ) (levels stand first : ℕ) (kind : Kind) → IsStand leaf stand first
+    → (is_leaf kind ≡ true → 0 < levels → first ≡ levels) → stands_well leaf levels kind ≡ is_placed levels stand kind
+placed_is (Some level) levels stand first kind is here = ap (λ s. is_placed levels s kind) (sym is)
+placed_is None zero stand first kind is here = refl
+placed_is None (suc m) stand first kind is here =
+    and_true (not (suc m == 0)) (not (is_leaf kind) || (suc m == stand)) (at_first (suc m) stand kind (is_leaf kind) refl (λ leaf. is ∙ here leaf (omega arith)))
+
+pub placed_some : (leaf : Option ℕ) (levels : ℕ) (kind : Kind) → stands_well leaf levels kind ≡ true → 0 < levels
+placed_some (Some level) zero kind is = absurd (cc)
+placed_some None zero kind is = absurd (cc)
+placed_some (Some level) (suc m) kind is = omega arith
+placed_some None (suc m) kind is = omega arith
+
+-- what was read is what the page holds
+pub node_is : (usable size at : ℕ) (pages : Paging) (page : ℕ) (bytes : List ℕ)
+    → size ≡ usable → at ≡ header_end page → bytes ≡ pages page → page_at (take size bytes) at ≡ node_at usable pages page
+node_is usable size at pages page bytes same place is =
+    ap (λ n. page_at (take n bytes) at) same ∙ ap (λ b. page_at (take usable b) at) is ∙ ap (λ m. page_at (take usable (pages page)) m) place
+
+pub reading_stops : (fault : PageFault) (reading : Result PageCells PageFault) (page : ℕ) (stop : Stop) → Fails fault reading → IsStopOf page fault stop
+    → IsReading page reading (the_err PageCells stop)
+reading_stops Memory reading page stop fails is = let P : Stop → Type 0 = λ s. IsReading page reading (the_err PageCells s) in subst P (sym is) refl
+reading_stops BadType reading page stop fails is = let P : Stop → Type 0 = λ s. IsReading page reading (the_err PageCells s) in subst P (sym is) (refl, refl, ap is_legal fails)
+reading_stops OffsetOut reading page stop fails is = let P : Stop → Type 0 = λ s. IsReading page reading (the_err PageCells s) in subst P (sym is) (refl, refl, ap is_legal fails)
+reading_stops CellOut reading page stop fails is = let P : Stop → Type 0 = λ s. IsReading page reading (the_err PageCells s) in subst P (sym is) (refl, refl, ap is_legal fails)
+reading_stops Overlap reading page stop fails is = let P : Stop → Type 0 = λ s. IsReading page reading (the_err PageCells s) in subst P (sym is) (refl, refl, ap is_legal fails)
+reading_stops OutOfOrder reading page stop fails is = let P : Stop → Type 0 = λ s. IsReading page reading (the_err PageCells s) in subst P (sym is) (refl, refl, ap is_legal fails)
+
+third : (count : ℕ) (b : ℕ → Bool) (page q rule : ℕ) (legal : Bool) → q ≡ page → rule ≡ 3 → legal ≡ false → Breaks count b (Keeps page 3 legal ∷ []) (q, rule)
+third count b page q rule legal e1 e2 e3 more = rw (e1, e2, e3) refl
+
+-- a page is met, and then read
+pub read_last : (count : ℕ) (a b : ℕ → Bool) (usable : ℕ) (pages : Paging) (holder page : ℕ) (r : Result PageCells Stop)
+    → Tries count a b (Names holder page ∷ []) (the_ok (Unit {0}) tt) → IsReading page (node_at usable pages page) r
+    → Tries count a b (read_marks usable pages holder page) r × IfOk r (λ node. node_at usable pages page ≡ Ok node)
+read_last count a b usable pages holder page (Ok node) met is = (
+  tries_then {X = Unit {0}} {Y = PageCells} count a b b (Names holder page ∷ []) (Keeps page 3 (is_legal (node_at usable pages page)) ∷ []) tt (the_ok PageCells node) met
+      (keeps_passes count b page 3 (is_legal (node_at usable pages page)) (ap is_legal is)),
+  is,
+)
+read_last count a b usable pages holder page (Err (Broken q rule)) met is = (
+  tries_then {X = Unit {0}} {Y = PageCells} count a b b (Names holder page ∷ []) (Keeps page 3 (is_legal (node_at usable pages page)) ∷ []) tt (the_err PageCells (Broken q rule)) met
+      (third count b page q rule (is_legal (node_at usable pages page)) is.0 is.1 is.2),
+  tt,
+)
+read_last count a b usable pages holder page (Err (Space f)) met is = (tt, tt)
+
+pub read_refuses : {P : Type 0} (g : Ghosts P) (a b : P) (page : ℕ) (reading : Result PageCells PageFault) (r : Result PageCells Stop)
+    → g.refusal b ≡ g.refusal a → IsReading page reading r → RefusesStop g a b r
+read_refuses g a b page reading (Ok node) same is = same
+read_refuses g a b page reading (Err (Broken q rule)) same is = same
+read_refuses g a b page reading (Err (Space f)) same is =
+    let Q : SpaceFault → Type 0 = λ x. g.refusal b ≡ refusal_of x (g.refusal a) in subst Q (sym is) same
+
+-- the marks of a page, by what it holds
+pub marks_are : (table : Bool) (usable : ℕ) (pages : Paging) (stand levels holder page : ℕ) (node : PageCells) → node_at usable pages page ≡ Ok node
+    → page_marks table usable pages stand levels holder page ≡ read_marks usable pages holder page ++ place_marks table levels stand page node.kind
+marks_are table usable pages stand levels holder page node is =
+    ap (λ (r : Result PageCells PageFault). Names holder page ∷ Keeps page 3 (is_legal (node_at usable pages page))
+    ∷ Keeps page 4 (has_kind (is_of_sort table) r) ∷ Keeps page 5 (not (levels == 0) && (not (has_kind is_leaf r) || (levels == stand))) ∷ []) is
+
+-- a leaf is where its own first leaf stands
+pub first_at_leaf : (usable : ℕ) (pages : Paging) (levels page : ℕ) (node : PageCells) → node_at usable pages page ≡ Ok node
+    → is_leaf node.kind ≡ true → 0 < levels → levels_at_leaf usable pages levels page ≡ levels
+first_at_leaf usable pages zero page node is leaf some = absurd (omega (arith, some))
+first_at_leaf usable pages (suc m) page node is leaf some =
+    let here : is_leaf_page usable pages page ≡ true = ap (has_kind is_leaf) is ∙ leaf in rw here refl
+
+pub page_stop : (count : ℕ) (a b : ℕ → Bool) (table : Bool) (usable : ℕ) (pages : Paging) (stand levels holder page : ℕ) (stop : Stop)
+    → Tries count a b (read_marks usable pages holder page) (the_err PageCells stop)
+    → Tries count a b (page_marks table usable pages stand levels holder page) (the_err PageCells stop)
+page_stop count a b table usable pages stand levels holder page stop tried =
+    tries_stop PageCells PageCells count a b b (read_marks usable pages holder page)
+    (Keeps page 4 (is_sort table usable pages page) ∷ Keeps page 5 (not (levels == 0) && (not (is_leaf_page usable pages page) || (levels == stand))) ∷ []) stop tried
+
+pub page_last : (count : ℕ) (a b : ℕ → Bool) (table : Bool) (usable : ℕ) (pages : Paging) (stand levels holder page : ℕ) (node : PageCells) (r : Result PageCells Stop)
+    → node_at usable pages page ≡ Ok node → Tries count a b (read_marks usable pages holder page) (the_ok PageCells node)
+    → Tries count b b (place_marks table levels stand page node.kind) r
+    → Tries count a b (page_marks table usable pages stand levels holder page) r
+page_last count a b table usable pages stand levels holder page node r is read placed =
+    let P : List Mark → Type 0 = λ marks. Tries count a b marks r in
+    subst P (sym (marks_are table usable pages stand levels holder page node is))
+    (tries_then {X = PageCells} {Y = PageCells} count a b b (read_marks usable pages holder page) (place_marks table levels stand page node.kind) node r read placed)

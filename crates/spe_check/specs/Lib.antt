@@ -1,0 +1,13 @@
+pub mod Held
+pub mod Admits
+pub mod Given
+pub mod ReadOnly
+pub mod Tries
+pub mod Marked
+pub mod MetPages
+pub mod Shown
+pub mod Chains
+pub mod Found
+pub mod Pages
+pub mod Trunks
+pub mod IndexTree

@@ -1,0 +1,171 @@
+//! Trees of indexes.
+
+ghost use Rattle.std.specs.Prelude.{◌≡◌, IfOk, length};
+ghost use Rattle.spe_model.specs.Tree.{rest_of};
+ghost use Rattle.spe_check.specs.IndexTree.{level_of, TriesCell, TriesChains, TriesIndex};
+ghost use Rattle.spe_check.specs.Shown.{Walked, RefusesStop};
+
+use crate::chain::try_chain;
+use crate::met::Met;
+use crate::page::{is_leaf, try_page};
+use crate::stop::Stop;
+use spe_model::Cell;
+use spe_space::Pages;
+use std::alloc::Global;
+
+// How many bytes of a cell's payload stand in its chain.
+pub fn rest_in(cell: &Cell) -> u64
+    ensures { result ≡ rest_of cell.now }
+{
+    cell.payload
+        .saturating_sub(cell.local.as_slice().len() as u64)
+}
+
+// Tries the chain of a cell of a page. Its bytes are not kept.
+fn try_cell<S: Pages>(
+    space: &mut S,
+    met: &mut Met,
+    page: u32,
+    cell: &Cell,
+    buf: &mut [u8],
+    spare: &mut Vec<u8>,
+) -> Result<(), Stop>
+    requires { length buf.old ≡ S.Pages.size space.old }
+    ensures tried { TriesCell S.Pages space.new met.old met.new page cell.now result }
+    ensures walked { Walked S.Pages space.old space.new met.old met.new }
+    ensures refusal { RefusesStop S.Pages space.old space.new result }
+{
+    try_chain(
+        space,
+        met,
+        page,
+        cell.chain,
+        rest_in(cell),
+        false,
+        buf,
+        spare,
+    )
+}
+
+// Tries the chains of the cells of a page.
+fn try_chains<S: Pages>(
+    space: &mut S,
+    met: &mut Met,
+    page: u32,
+    cells: &[Cell],
+    buf: &mut [u8],
+    spare: &mut Vec<u8>,
+) -> Result<(), Stop>
+    requires { length buf.old ≡ S.Pages.size space.old }
+    ensures tried { TriesChains S.Pages space.new met.old met.new page cells.now result }
+    ensures walked { Walked S.Pages space.old space.new met.old met.new }
+    ensures refusal { RefusesStop S.Pages space.old space.new result }
+{
+    let mut left = cells;
+    'cells: while let [cell, rest @ ..] = left {
+        match try_cell(space, met, page, cell, buf, spare) {
+            Ok(()) => (),
+            Err(stop) => return Err(stop),
+        }
+        left = rest;
+    }
+    Ok(())
+}
+
+// How many levels are left at the first leaf, where none was met before this one.
+fn level_of(leaf: Option<u32>, levels: u32) -> u32
+    ensures { result ≡ level_of leaf levels }
+{
+    match leaf {
+        Some(level) => level,
+        None => levels,
+    }
+}
+
+// Tries the chains of the cells of a leaf, at which so many levels are left.
+fn walk_leaf<S: Pages>(
+    space: &mut S,
+    met: &mut Met,
+    levels: u32,
+    page: u32,
+    cells: &[Cell],
+    buf: &mut [u8],
+    spare: &mut Vec<u8>,
+) -> Result<u32, Stop>
+    requires { length buf.old ≡ S.Pages.size space.old }
+    ensures tried { TriesChains S.Pages space.new met.old met.new page cells.now result }
+    ensures level { IfOk result (λ level. level ≡ levels) }
+    ensures walked { Walked S.Pages space.old space.new met.old met.new }
+    ensures refusal { RefusesStop S.Pages space.old space.new result }
+{
+    match try_chains(space, met, page, cells, buf, spare) {
+        Ok(()) => Ok(levels),
+        Err(stop) => Err(stop),
+    }
+}
+
+/// Tries the tree of an index from the page `page` on, whose number stands on the page `holder`, and
+/// answers how many levels were left at its leaves.
+///
+/// So many levels are left, the page among them; `leaf` says how many were left at the first leaf of
+/// the whole tree, where one was met. `buf` is one page long. Each page is got once.
+pub fn walk_index<S: Pages>(
+    alloc: Global,
+    space: &mut S,
+    met: &mut Met,
+    leaf: Option<u32>,
+    levels: u32,
+    holder: u32,
+    page: u32,
+    buf: &mut [u8],
+    spare: &mut Vec<u8>,
+) -> Result<u32, Stop>
+    requires { length buf.old ≡ S.Pages.size space.old }
+    ensures tried { TriesIndex S.Pages space.new met.old met.new leaf levels holder page result }
+    ensures walked { Walked S.Pages space.old space.new met.old met.new }
+    ensures refusal { RefusesStop S.Pages space.old space.new result }
+{
+    let node = match try_page(alloc, space, met, false, leaf, levels, holder, page, buf) {
+        Ok(node) => node,
+        Err(stop) => return Err(stop),
+    };
+    if is_leaf(node.kind) {
+        let level = level_of(leaf, levels);
+        return walk_leaf(space, met, level, page, node.cells.as_slice(), buf, spare);
+    }
+    let right = node.right;
+    let mut stand = leaf;
+    let mut left = node.cells.as_slice();
+    'children: while let [cell, rest @ ..] = left {
+        match walk_index(
+            alloc,
+            space,
+            met,
+            stand,
+            levels - 1,
+            page,
+            cell.left,
+            buf,
+            spare,
+        ) {
+            Ok(level) => stand = Some(level),
+            Err(stop) => return Err(stop),
+        }
+        match try_cell(space, met, page, cell, buf, spare) {
+            Ok(()) => (),
+            Err(stop) => return Err(stop),
+        }
+        left = rest;
+    }
+    walk_index(
+        alloc,
+        space,
+        met,
+        stand,
+        levels - 1,
+        page,
+        right,
+        buf,
+        spare,
+    )
+}

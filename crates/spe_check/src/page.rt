@@ -1,0 +1,152 @@
+//! A page of a tree.
+
+ghost use Rattle.std.specs.Prelude.{◌≡◌, ◌≤◌, ◌<◌, ◌⊎◌, OnOk, IfErr, length, take};
+ghost use Rattle.spe_model.specs.Kind.{is_leaf, is_table};
+ghost use Rattle.spe_model.specs.Page.{page_at};
+ghost use Rattle.spe_model.specs.Tree.{header_end};
+ghost use Rattle.spe_check.specs.Pages.{is_of_sort, stands_well, IsReading, IsStopOf, TriesRead, TriesPage, TriesPlace};
+ghost use Rattle.spe_check.specs.Shown.{Walked, RefusesStop};
+ghost use Rattle.spe_check.specs.Tries.{IsBroken};
+
+use crate::met::Met;
+use crate::rule::try_rule;
+use crate::stop::Stop;
+use spe_format::read_page;
+use spe_model::{Kind, PageCells, PageFault};
+use spe_space::{Pages, SpaceFault};
+use std::alloc::Global;
+
+/// Whether pages of this kind have no children.
+pub fn is_leaf(kind: Kind) -> bool
+    ensures { result ≡ is_leaf kind }
+{
+    matches!(kind, Kind::TableLeaf | Kind::IndexLeaf)
+}
+
+fn is_table(kind: Kind) -> bool
+    ensures { result ≡ is_table kind }
+{
+    matches!(kind, Kind::TableLeaf | Kind::TableInterior)
+}
+
+fn is_of_sort(table: bool, kind: Kind) -> bool
+    ensures { result ≡ is_of_sort table kind }
+{
+    if table {
+        is_table(kind)
+    } else {
+        !is_table(kind)
+    }
+}
+
+// Whether a leaf may stand where so many levels are left: where the first one stood, if one was met.
+fn stands_well(leaf: Option<u32>, levels: u32, kind: Kind) -> bool
+    ensures { result ≡ stands_well leaf levels kind }
+{
+    match leaf {
+        Some(level) => levels != 0 && (!is_leaf(kind) || levels == level),
+        None => levels != 0,
+    }
+}
+
+fn header_of(page: u32) -> usize
+    ensures value { result ≡ header_end page }
+    ensures either { (result ≡ 0) ⊎ (result ≡ 100) }
+{
+    if page == 1 { 100 } else { 0 }
+}
+
+// Tries the rules of a page's kind and of its place in the tree.
+fn try_place(table: bool, leaf: Option<u32>, levels: u32, page: u32, kind: Kind) -> Result<(), Stop>
+    ensures tried { TriesPlace table leaf levels page kind result }
+    ensures some { OnOk result (0 < levels) }
+    ensures broken { IfErr result IsBroken }
+{
+    match try_rule(is_of_sort(table, kind), page, 4) {
+        Ok(()) => (),
+        Err(stop) => return Err(stop),
+    }
+    try_rule(stands_well(leaf, levels, kind), page, 5)
+}
+
+fn stop_of(fault: PageFault, page: u32) -> Stop
+    ensures { IsStopOf page fault result }
+{
+    match fault {
+        PageFault::Memory => Stop::Space(SpaceFault::Memory),
+        _ => Stop::Broken { page, rule: 3 },
+    }
+}
+
+// What the bytes of a page hold.
+fn node_in(
+    alloc: Global,
+    bytes: &[u8],
+    at: usize,
+    usable: usize,
+    page: u32,
+) -> Result<PageCells, Stop>
+    requires at { (at ≡ 0) ⊎ (at ≡ 100) }
+    requires low { 480 ≤ usable }
+    requires high { usable ≤ 65536 }
+    requires inside { usable ≤ length bytes.now }
+    ensures { IsReading page (page_at (take usable bytes.now) at) result }
+{
+    match read_page(alloc, bytes, at, usable) {
+        Ok(node) => Ok(node),
+        Err(fault) => Err(stop_of(fault, page)),
+    }
+}
+
+// Meets a page, and reads what it holds.
+fn read_met<S: Pages>(
+    alloc: Global,
+    space: &mut S,
+    met: &mut Met,
+    holder: u32,
+    page: u32,
+    buf: &mut [u8],
+) -> Result<PageCells, Stop>
+    requires { length buf.old ≡ S.Pages.size space.old }
+    ensures tried { TriesRead S.Pages space.new met.old met.new holder page result }
+    ensures walked { Walked S.Pages space.old space.new met.old met.new }
+    ensures refusal { RefusesStop S.Pages space.old space.new result }
+{
+    match met.meet(holder, page) {
+        Ok(()) => (),
+        Err(stop) => return Err(stop),
+    }
+    let usable = space.usable() as usize;
+    space.get(page, buf)?;
+    node_in(alloc, buf, header_of(page), usable, page)
+}
+
+/// Tries a page of a tree before its cells, and answers what it holds. Its number stands on the page
+/// `holder`; so many levels are left, it among them; `leaf` says how many were left at the first leaf
+/// of the tree, where one was met.
+pub fn try_page<S: Pages>(
+    alloc: Global,
+    space: &mut S,
+    met: &mut Met,
+    table: bool,
+    leaf: Option<u32>,
+    levels: u32,
+    holder: u32,
+    page: u32,
+    buf: &mut [u8],
+) -> Result<PageCells, Stop>
+    requires { length buf.old ≡ S.Pages.size space.old }
+    ensures tried { TriesPage S.Pages space.new met.old met.new table leaf levels holder page result }
+    ensures some { OnOk result (0 < levels) }
+    ensures walked { Walked S.Pages space.old space.new met.old met.new }
+    ensures refusal { RefusesStop S.Pages space.old space.new result }
+{
+    let node = match read_met(alloc, space, met, holder, page, buf) {
+        Ok(node) => node,
+        Err(stop) => return Err(stop),
+    };
+    match try_place(table, leaf, levels, page, node.kind) {
+        Ok(()) => Ok(node),
+        Err(stop) => Err(stop),
+    }
+}

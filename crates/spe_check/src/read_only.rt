@@ -1,0 +1,94 @@
+//! The pages of a database file, as a space that can only be read.
+
+ghost use Rattle.std.specs.Prelude.{false, true, None, refl};
+ghost use Rattle.std.specs.Ordering.{nat_cmp};
+ghost use Rattle.std.specs.BTreeMap.{get};
+ghost use Rattle.spe_model.specs.Verdict.{free_pages};
+ghost use Rattle.spe_model.specs.Walk.{is_met};
+ghost use Rattle.spe_check.specs.Admits.{admits_read};
+ghost use Rattle.spe_check.specs.Held.{told_pages};
+ghost use Rattle.spe_check.specs.ReadOnly.{AreListed};
+ghost use Rattle.spe_check.specs.Given.{at_most_itself, given_agrees};
+
+use crate::disk_space::DiskSpace;
+use crate::origin::Origin;
+use spe_disk::Disk;
+use spe_space::{PageSpace, Pages, SpaceFault};
+
+impl<D: Disk, K: Origin> Pages for DiskSpace<D, K> {
+    ghost size = { λ s. s.size };
+
+    ghost used = { λ s. s.usable };
+
+    ghost count = { λ s. s.pages };
+
+    ghost limit = { λ s. s.pages };
+
+    ghost shared = { λ _. false };
+
+    ghost sealed = { λ _. true };
+
+    ghost told = { λ s. told_pages K.told s.size };
+
+    ghost seen = { λ s page. get nat_cmp s.given page };
+
+    ghost laid = { λ _ _. None };
+
+    ghost is_free = { λ s pages page. is_met (free_pages s.pages pages) page };
+
+    ghost stands = { λ s pages. AreListed s.usable s.pages pages };
+
+    ghost admits = { admits_read };
+
+    ghost refusal = { λ s. s.refusal };
+
+    ghost given = { λ s. given_agrees K.told s.size s.given s.held };
+
+    ghost settled = { λ _ _. refl };
+
+    ghost within = { λ s. (s.some, at_most_itself s.pages) };
+
+    fn page_size(&self) -> u32 {
+        self.size
+    }
+
+    fn usable(&self) -> u32 {
+        self.usable
+    }
+
+    fn get(&mut self, page: u32, buf: &mut [u8]) -> Result<(), SpaceFault> {
+        if !self.has(page) {
+            return Err(self.refuse_page(page));
+        }
+        if let Some(bytes) = self.given.get(&page) {
+            buf.copy_from_slice(bytes.as_slice());
+            return Ok(());
+        }
+        match self.read(page, buf) {
+            Ok(()) => (),
+            Err(fault) => return Err(fault),
+        }
+        self.keep(page, buf)?;
+        Ok(())
+    }
+
+    fn put(&mut self, _page: u32, _bytes: &[u8]) -> Result<(), SpaceFault> {
+        Err(self.refuse_page(0))
+    }
+
+    fn extend(&mut self) -> Result<u32, SpaceFault> {
+        Err(self.refuse_page(0))
+    }
+}
+
+impl<D: Disk, K: Origin> PageSpace for DiskSpace<D, K> {
+    ghost next_free = { λ _ _. None };
+
+    fn alloc(&mut self) -> Result<u32, SpaceFault> {
+        Err(self.refuse_page(0))
+    }
+
+    fn free(&mut self, _page: u32) -> Result<(), SpaceFault> {
+        Err(self.refuse_page(0))
+    }
+}
