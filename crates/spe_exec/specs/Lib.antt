@@ -1,0 +1,6 @@
+pub mod Bounds
+pub mod Finding
+pub mod Rows
+pub mod Run
+pub mod Adds
+pub mod Misses

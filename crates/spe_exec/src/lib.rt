@@ -1,0 +1,16 @@
+//! Statements on the tables of pages.
+//!
+//! A statement that reads gets the pages of its table's tree that its conditions touch, and answers what
+//! it means on the database for which the pages stand, whatever the pages below a space are, as long as
+//! they agree with those that were given. Corrupt names a page with its cause. Want of memory alone is
+//! free.
+#![tactic(auto)]
+
+mod bounds;
+mod chosen;
+mod finding;
+mod reads;
+mod rows;
+mod select;
+
+pub use reads::run;
