@@ -14,7 +14,7 @@ use Rattle.spe_model.specs.Tree.{header_end}
 use Rattle.spe_search.specs.Step.{ShowsNoTable}
 use Rattle.spe_search.specs.Found.{used_of}
 use Rattle.spe_search.proofs.PlaceLemmas.{cell_there}
-use Rattle.spe_search.specs.Found.{IsFaulty, IsBelow, IsReached}
+use Rattle.spe_search.specs.Found.{IsFaulty, IsBelow}
 use Rattle.spe_catalog.specs.declared.leaves.Way.{Way}
 use Rattle.spe_catalog.specs.declared.leaves.Way.TheVariants.{Here, Child}
 use Rattle.spe_catalog.specs.Leaf.{Has, HasPassed, FindsWay, IsWay, IsLeafFor, LeafOrCause}

@@ -8,3 +8,4 @@ mod TableLemmas
 mod ReadingLemmas
 mod LeafLemmas
 mod ReaderLemmas
+mod AsksLemmas

@@ -15,7 +15,7 @@ use Rattle.spe_space.specs.declared.pages.Pages.{Ghosts}
 use Rattle.spe_space.specs.Found.{Answers}
 use Rattle.spe_space.specs.declared.fault.TreeFault.{TreeFault}
 use Rattle.spe_space.specs.declared.fault.TreeFault.TheVariants.{Space, Corrupt}
-use Rattle.spe_search.specs.Found.{HasCause, IsFaulty, IsBelow}
+use Rattle.spe_search.specs.Found.{HasCause}
 use Rattle.spe_catalog.specs.Reading.{has_number, have_numbers, IsBad, unread, far, repeated, IsDamaged, AreRead, table_names}
 use Rattle.spe_catalog.specs.Leaf.{IsLeafFor, IsWayCause}
 use Rattle.spe_catalog.specs.Reader.{Pushes, tables_of, CatalogOrBad, HasSchemaCause, NamesLeaf}

@@ -8,3 +8,4 @@ pub mod Names
 pub mod Reading
 pub mod Leaf
 pub mod Reader
+pub mod Asks

@@ -1,5 +1,5 @@
 -- Tables, open and closed.
-use Rattle.std.specs.Prelude.{◌≡◌, ℕ, Bool, not, List, Option, Some, None, Result, IfOk, codes, if◌then◌else◌}
+use Rattle.std.specs.Prelude.{◌≡◌, ℕ, Bool, not, ◌||◌, List, Option, Some, None, Result, IfOk, codes, if◌then◌else◌}
 use Rattle.std.specs.List.{list_any}
 use Rattle.std.specs.declared.alloc.AllocError.{AllocError}
 use Rattle.spe_model.specs.declared.table.Closed.{Closed}
@@ -12,6 +12,10 @@ use Rattle.spe_catalog.specs.declared.table.Attached.{Attached}
 -- the names of the tables that objects of this type belong to, among these rows
 abbrev pub AreOn : (type : List ℕ) → List SchemaRow → (names : List (List ℕ)) → Type 0
 AreOn type rows names = (name : List ℕ) → has_name names name ≡ list_any (is_on type name) rows
+
+-- the name of the table of an object of this type joins others
+abbrev pub AddsOn : (type : List ℕ) → SchemaRow → (old new : List (List ℕ)) → Type 0
+AddsOn type row old new = (name : List ℕ) → has_name new name ≡ (is_on type name row || has_name old name)
 
 -- the tables that have an index or a trigger among these rows
 pub record Attaches (rows : List SchemaRow) (attached : Attached) : Type 0 where

@@ -1,9 +1,10 @@
 //! The leaf of a row.
 
-ghost use Rattle.std.specs.Prelude.{◌≡◌, ◌≤◌, ◌⊎◌, None, length};
+ghost use Rattle.std.specs.Prelude.{◌≡◌, ◌≢◌, ◌≤◌, ◌⊎◌, ℕ, None, length};
 ghost use Rattle.spe_model.specs.Tree.{header_end, rank};
 ghost use Rattle.spe_space.specs.Calls.{Reads, RefusesTree};
 ghost use Rattle.spe_catalog.specs.Leaf.{FindsNext, FindsWay, GivesWay, FindsLeaf};
+ghost use Rattle.spe_catalog.specs.Asks.{MissesOnly, AddsOnWay, MissesOnWay};
 
 use spe_format::{PageView, Parts};
 use spe_model::Kind;
@@ -78,6 +79,8 @@ fn way_in(view: &PageView<'_>, key: u64) -> Option<Way>
 fn way_at<S: Pages>(space: &mut S, page: u32, key: u64, buf: &mut [u8]) -> Result<Way, TreeFault>
     requires { length buf.old ≡ S.Pages.size space.old }
     ensures given { GivesWay S.Pages space.old space.new page key result }
+    ensures only { (n : ℕ) → n ≢ page → S.Pages.seen space.new n ≡ S.Pages.seen space.old n }
+    ensures page_out { MissesOnly result (λ at. at ≡ page) }
     ensures kept { Reads S.Pages space.old space.new }
     ensures refusal { RefusesTree S.Pages space.old space.new result }
 {
@@ -102,6 +105,8 @@ fn descend<S: Pages>(
 ) -> Result<u32, TreeFault>
     requires { length buf.old ≡ S.Pages.size space.old }
     ensures found { FindsLeaf S.Pages space.old space.new page key levels result }
+    ensures adds { AddsOnWay S.Pages space.old space.new page key }
+    ensures page_out { MissesOnWay S.Pages space.old space.new page key result }
     ensures kept { Reads S.Pages space.old space.new }
     ensures refusal { RefusesTree S.Pages space.old space.new result }
 {
@@ -119,10 +124,13 @@ fn descend<S: Pages>(
 /// its root, where there is such a row.
 ///
 /// One page is got a level. Corrupt names a page that is no legal page of a table, or that would be the
-/// tree's 21st level. ("B-tree Pages" in SQLite's Database File Format.)
+/// tree's 21st level. Where the tree stands, PageOut names one of its pages. ("B-tree Pages" in SQLite's
+/// Database File Format.)
 pub fn leaf<S: Pages>(alloc: Global, space: &mut S, root: u32, rowid: i64) -> Result<u32, TreeFault>
     requires { S.Pages.refusal space.old ≡ None }
     ensures found { FindsLeaf S.Pages space.old space.new root (rank rowid) 20 result }
+    ensures adds { AddsOnWay S.Pages space.old space.new root (rank rowid) }
+    ensures page_out { MissesOnWay S.Pages space.old space.new root (rank rowid) result }
     ensures kept { Reads S.Pages space.old space.new }
     ensures refusal { RefusesTree S.Pages space.old space.new result }
 {

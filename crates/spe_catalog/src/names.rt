@@ -1,6 +1,6 @@
 //! Sets of names.
 
-ghost use Rattle.std.specs.Prelude.{◌≡◌, false, not, ◌||◌, ℕ, List, IfOk, OnOk};
+ghost use Rattle.std.specs.Prelude.{◌≡◌, false, not, ◌||◌, ℕ, List, IfOk, OnOk, OnErr};
 ghost use Rattle.spe_model.specs.Agree.{agree};
 ghost use Rattle.spe_catalog.specs.Names.{has_name};
 
@@ -38,6 +38,8 @@ impl NameSet {
     pub fn insert(&mut self, alloc: Global, name: &str) -> Result<bool, AllocError>
         ensures added { IfOk result (λ added. added ≡ not (has_name self.old name.now)) }
         ensures has { OnOk result ((other : List ℕ) → has_name self.new other ≡ (agree name.now other || has_name self.old other)) }
+        ensures same { IfOk result (λ added. added ≡ false → self.new ≡ self.old) }
+        ensures kept { OnErr result (self.new ≡ self.old) }
     {
         let folded = name.to_ascii_lowercase(alloc)?;
         Ok(self.folded.insert(folded)?)

@@ -1,13 +1,15 @@
 //! The catalog of pages.
 
-ghost use Rattle.std.specs.Prelude.{◌≡◌, ℕ, Err, None, length};
+ghost use Rattle.std.specs.Prelude.{◌≡◌, ◌≢◌, ◌<◌, ℕ, ◌∷◌, [], Err, None, length};
 ghost use Rattle.spe_space.specs.Calls.{Reads, RefusesTree};
 ghost use Rattle.spe_model.specs.Schema.{is_index_kind};
 ghost use Rattle.spe_model.specs.Kind.{kind_of};
+ghost use Rattle.spe_model.specs.Tree.{rank};
 ghost use Rattle.spe_catalog.specs.Reader.{TellsKind, TellsRoot, MakesEntry, PushesEntry, MakesEntries, MakesCatalog, FindsCatalog, NamesSchema, NamesLeaf};
+ghost use Rattle.spe_catalog.specs.Asks.{AddsOnly, MissesOnly, AddsOnWay, MissesOnWay, IsRootOf, IsRootIn, AddsOfCatalog, MissesOfCatalog};
 
 use crate::leaves::{header_of, leaf};
-use crate::reading::{Reading, is_table, read_rows, root_of};
+use crate::reading::{Reading, read_rows};
 use crate::schema::SchemaRow;
 use crate::table::{Attached, table_of};
 use spe_model::{Catalog, Entry};
@@ -27,6 +29,8 @@ fn is_index_byte(byte: u8) -> bool
 fn is_index_page<S: Pages>(space: &mut S, page: u32, buf: &mut [u8]) -> Result<bool, TreeFault>
     requires { length buf.old ≡ S.Pages.size space.old }
     ensures kind { TellsKind S.Pages space.old space.new page result }
+    ensures only { (n : ℕ) → n ≢ page → S.Pages.seen space.new n ≡ S.Pages.seen space.old n }
+    ensures page_out { MissesOnly result (λ at. at ≡ page) }
     ensures kept { Reads S.Pages space.old space.new }
     ensures refusal { RefusesTree S.Pages space.old space.new result }
 {
@@ -39,6 +43,8 @@ fn is_index_page<S: Pages>(space: &mut S, page: u32, buf: &mut [u8]) -> Result<b
 fn is_rooted<S: Pages>(space: &mut S, root: u32, buf: &mut [u8]) -> Result<bool, TreeFault>
     requires { length buf.old ≡ S.Pages.size space.old }
     ensures rooted { TellsRoot S.Pages space.old space.new root result }
+    ensures adds { AddsOnly S.Pages space.old space.new (λ n. (n ≡ root) × (0 < n)) }
+    ensures page_out { MissesOnly result (λ at. (at ≡ root) × (0 < at)) }
     ensures kept { Reads S.Pages space.old space.new }
     ensures refusal { RefusesTree S.Pages space.old space.new result }
 {
@@ -61,10 +67,12 @@ fn make_entry<S: Pages>(
 ) -> Result<Entry, TreeFault>
     requires size { length buf.old ≡ S.Pages.size space.old }
     ensures made { MakesEntry S.Pages space.old space.new attached.now row.now result }
+    ensures adds { AddsOnly S.Pages space.old space.new (IsRootOf row.now) }
+    ensures page_out { MissesOnly result (IsRootOf row.now) }
     ensures kept { Reads S.Pages space.old space.new }
     ensures refusal { RefusesTree S.Pages space.old space.new result }
 {
-    let root = root_of(row).unwrap_or(0);
+    let root = row.root().unwrap_or(0);
     let rooted = match is_rooted(space, root, buf) {
         Ok(rooted) => rooted,
         Err(fault) => return Err(fault),
@@ -84,10 +92,12 @@ fn push_entry<S: Pages>(
 ) -> Result<(), TreeFault>
     requires size { length buf.old ≡ S.Pages.size space.old }
     ensures made { PushesEntry S.Pages space.old space.new attached.now row.now out.old.items out.new.items result }
+    ensures adds { AddsOnly S.Pages space.old space.new (IsRootIn (row.now ∷ [])) }
+    ensures page_out { MissesOnly result (IsRootIn (row.now ∷ [])) }
     ensures kept { Reads S.Pages space.old space.new }
     ensures refusal { RefusesTree S.Pages space.old space.new result }
 {
-    if !is_table(row) {
+    if !row.is_table() {
         return Ok(());
     }
     match make_entry(alloc, space, attached, row, buf) {
@@ -107,6 +117,8 @@ fn entries<S: Pages>(
 ) -> Result<Vec<Entry>, TreeFault>
     requires size { length buf.old ≡ S.Pages.size space.old }
     ensures made { MakesEntries S.Pages space.old space.new attached.now rows.now (λ v. v.items) result }
+    ensures adds { AddsOnly S.Pages space.old space.new (IsRootIn rows.now) }
+    ensures page_out { MissesOnly result (IsRootIn rows.now) }
     ensures kept { Reads S.Pages space.old space.new }
     ensures refusal { RefusesTree S.Pages space.old space.new result }
 {
@@ -129,6 +141,8 @@ fn catalog_of<S: Pages>(
     rows: &[SchemaRow],
 ) -> Result<Catalog, TreeFault>
     ensures made { MakesCatalog S.Pages space.old space.new rows.now result }
+    ensures adds { AddsOnly S.Pages space.old space.new (IsRootIn rows.now) }
+    ensures page_out { MissesOnly result (IsRootIn rows.now) }
     ensures kept { Reads S.Pages space.old space.new }
     ensures refusal { RefusesTree S.Pages space.old space.new result }
 {
@@ -144,6 +158,8 @@ fn catalog_of<S: Pages>(
 fn damage<S: Pages>(alloc: Global, space: &mut S, rowid: i64) -> TreeFault
     requires { S.Pages.refusal space.old ≡ None }
     ensures named { NamesLeaf S.Pages space.old space.new rowid result }
+    ensures adds { AddsOnWay S.Pages space.old space.new 1 (rank rowid) }
+    ensures page_out { MissesOnWay {X = ℕ} S.Pages space.old space.new 1 (rank rowid) (Err result) }
     ensures kept { Reads S.Pages space.old space.new }
     ensures refusal { RefusesTree {X = ℕ} S.Pages space.old space.new (Err result) }
 {
@@ -158,12 +174,15 @@ fn damage<S: Pages>(alloc: Global, space: &mut S, rowid: i64) -> TreeFault
 /// Each page of the schema's tree is got once, and then the root page of each table. Corrupt is as of
 /// `range`, or names the leaf of a schema row whose record is no schema record, whose name is that of a
 /// table before it, or whose root page has a number past 32 bits; to find that leaf one page is got a
-/// level. ("Storage Of The SQL Database Schema" in SQLite's Database File Format; which tables are open
-/// is this project's own.)
+/// level. Where the schema's tree stands, PageOut names one of its pages, an overflow page of one of its
+/// rows, or, where all rows are in order, the root page of a table. ("Storage Of The SQL Database Schema"
+/// in SQLite's Database File Format; which tables are open is this project's own.)
 pub fn read_catalog<S: Pages>(alloc: Global, space: &mut S) -> Result<Catalog, TreeFault>
     requires { S.Pages.refusal space.old ≡ None }
     ensures found { FindsCatalog S.Pages space.old space.new result }
     ensures damage { NamesSchema S.Pages space.old space.new result }
+    ensures adds { AddsOfCatalog S.Pages space.old space.new }
+    ensures page_out { MissesOfCatalog S.Pages space.old space.new result }
     ensures kept { Reads S.Pages space.old space.new }
     ensures refusal { RefusesTree S.Pages space.old space.new result }
 {

@@ -1,7 +1,7 @@
 //! The rows of the schema table, read one after the other.
 
-ghost use Rattle.std.specs.Prelude.{◌≡◌, ◌<◌, ◌^◌, IfOk, SomeIff, map};
-ghost use Rattle.spe_model.specs.Schema.{is_table_row, root_of, schema_row_of};
+ghost use Rattle.std.specs.Prelude.{◌≡◌, IfOk, map};
+ghost use Rattle.spe_model.specs.Schema.{schema_row_of};
 ghost use Rattle.spe_search.specs.Pairs.{pair_seen};
 ghost use Rattle.spe_catalog.specs.Reading.{Joins, Reads};
 ghost use Rattle.spe_catalog.specs.declared.reading.Reading.TheVariants.{Damage};
@@ -21,31 +21,14 @@ pub enum Reading {
     Damage(i64),
 }
 
-/// Whether a row names a table.
-pub fn is_table(row: &SchemaRow) -> bool
-    ensures { result ≡ is_table_row row.now }
-{
-    row.kind().as_slice() == b"table".as_slice()
-}
-
-/// The page of a row's root, or 0 where there is none. `None` where its number is past 32 bits.
-pub fn root_of(row: &SchemaRow) -> Option<u32>
-    ensures { SomeIff result (root_of row.now.rootpage < 2 ^ 32) (root_of row.now.rootpage) }
-{
-    match row.rootpage() {
-        Some(number) if number > 0 => u32::try_from(number).ok(),
-        _ => Some(0),
-    }
-}
-
 // Whether a row may stand behind others, the names of whose tables it joins.
 fn joins(alloc: Global, names: &mut NameSet, row: &SchemaRow) -> Result<bool, AllocError>
     ensures { IfOk result (Joins row.now names.old names.new) }
 {
-    if !is_table(row) {
+    if !row.is_table() {
         return Ok(true);
     }
-    if root_of(row).is_none() {
+    if row.root().is_none() {
         return Ok(false);
     }
     names.insert(alloc, row.name().as_str())

@@ -1,8 +1,8 @@
 //! The rows of the schema table.
 
-ghost use Rattle.std.specs.Prelude.{◌≡◌, ◌∷◌, [], IfOk};
+ghost use Rattle.std.specs.Prelude.{◌≡◌, ◌<◌, ◌^◌, ◌∷◌, [], IfOk, IfSome, SomeIff};
 ghost use Rattle.std.specs.Option.{option_map};
-ghost use Rattle.spe_model.specs.Schema.{root_in, sql_in, schema_row, schema_row_of};
+ghost use Rattle.spe_model.specs.Schema.{is_table_row, root_in, root_of, sql_in, schema_row, schema_row_of};
 ghost use Rattle.spe_catalog.specs.Row.{text_in};
 
 use spe_model::{Text, Value};
@@ -31,6 +31,19 @@ impl Model for SchemaRow {
 }
 
 impl SchemaRow {
+    /// The row of these values, or `None` where they are not five of the right kinds.
+    pub fn from_values(rowid: i64, values: Vec<Value>) -> Option<SchemaRow>
+        ensures value { result ≡ schema_row rowid values.items }
+        ensures own { IfSome result (λ row. row.rowid ≡ rowid) }
+    {
+        match <[Value; 5]>::try_from(values) {
+            Ok([kind, name, tbl_name, root, sql]) => {
+                row_from(rowid, kind, name, tbl_name, root, sql)
+            }
+            Err(_values) => None,
+        }
+    }
+
     /// The row's own rowid in the schema table.
     pub fn rowid(&self) -> i64
         ensures { result ≡ self.now.rowid }
@@ -71,6 +84,23 @@ impl SchemaRow {
         ensures { option_map (λ t. t.now) result ≡ self.now.sql }
     {
         self.sql.as_ref()
+    }
+
+    /// Whether the object is a table.
+    pub fn is_table(&self) -> bool
+        ensures { result ≡ is_table_row self.now }
+    {
+        self.kind.as_slice() == b"table".as_slice()
+    }
+
+    /// The page of the root, or 0 where there is none. `None` where its number is past 32 bits.
+    pub fn root(&self) -> Option<u32>
+        ensures { SomeIff result (root_of self.now.rootpage < 2 ^ 32) (root_of self.now.rootpage) }
+    {
+        match self.rootpage {
+            Some(number) if number > 0 => u32::try_from(number).ok(),
+            _ => Some(0),
+        }
     }
 }
 
@@ -114,7 +144,8 @@ fn row_from(
     root: Value,
     sql: Value,
 ) -> Option<SchemaRow>
-    ensures { result ≡ schema_row rowid (kind ∷ name ∷ tbl_name ∷ root ∷ sql ∷ []) }
+    ensures value { result ≡ schema_row rowid (kind ∷ name ∷ tbl_name ∷ root ∷ sql ∷ []) }
+    ensures own { IfSome result (λ row. row.rowid ≡ rowid) }
 {
     let kind = text_in(kind)?;
     let name = text_in(name)?;
@@ -131,18 +162,6 @@ fn row_from(
     })
 }
 
-// The row of some values.
-fn row_of(rowid: i64, values: Vec<Value>) -> Option<SchemaRow>
-    ensures { result ≡ schema_row rowid values.items }
-{
-    match <[Value; 5]>::try_from(values) {
-        Ok([kind, name, tbl_name, root, sql]) => {
-            row_from(rowid, kind, name, tbl_name, root, sql)
-        }
-        Err(_values) => None,
-    }
-}
-
 /// The row of the schema table that has this rowid and this payload, or `None` where the payload is no
 /// record or its fields are not five of the right kinds: three texts, a whole number or NULL, and a
 /// text or NULL.
@@ -154,7 +173,7 @@ pub fn schema_row(
     ensures { IfOk result (λ row. row ≡ schema_row_of (rowid, payload.now)) }
 {
     match decode(alloc, payload) {
-        Ok(values) => Ok(row_of(rowid, values.into_vec())),
+        Ok(values) => Ok(SchemaRow::from_values(rowid, values.into_vec())),
         Err(RecordFault::Memory) => Err(AllocError),
         Err(_) => Ok(None),
     }

@@ -1,9 +1,9 @@
 //! Tables, open and closed.
 
-ghost use Rattle.std.specs.Prelude.{◌≡◌, ◌&&◌, IfOk};
+ghost use Rattle.std.specs.Prelude.{◌≡◌, ◌&&◌, [], IfOk, OnOk, codes};
 ghost use Rattle.spe_model.specs.Definition.{are_distinct, names_of};
 ghost use Rattle.spe_model.specs.Schema.{is_of_type, is_own_name, is_declared, declaration_in, columns_in, alias_in};
-ghost use Rattle.spe_catalog.specs.Table.{Attaches, AreOn, MakesTable, first_reason};
+ghost use Rattle.spe_catalog.specs.Table.{Attaches, AddsOn, MakesTable, first_reason};
 
 use crate::definitions::definition;
 use crate::names::NameSet;
@@ -25,30 +25,52 @@ fn is_on_kind(kind: &[u8], row: &SchemaRow) -> bool
     row.kind().as_slice() == kind
 }
 
-// The names of the tables that objects of a type belong to.
-fn names_on(alloc: Global, kind: &[u8], rows: &[SchemaRow]) -> Result<NameSet, AllocError>
-    ensures { IfOk result (AreOn kind.now rows.now) }
+// Adds the name of the table that an object belongs to, where the object is of this type.
+fn add_on(
+    alloc: Global,
+    kind: &[u8],
+    row: &SchemaRow,
+    names: &mut NameSet,
+) -> Result<(), AllocError>
+    ensures { OnOk result (AddsOn kind.now row.now names.old names.new) }
 {
-    let mut names = NameSet::new(alloc);
-    let mut left = rows;
-    while let [row, rest @ ..] = left {
-        if is_on_kind(kind, row) {
-            names.insert(alloc, row.tbl_name().as_str())?;
-        }
-        left = rest;
+    if is_on_kind(kind, row) {
+        names.insert(alloc, row.tbl_name().as_str())?;
     }
-    Ok(names)
+    Ok(())
 }
 
 impl Attached {
+    /// None.
+    pub fn none(alloc: Global) -> Attached
+        ensures { Attaches [] result }
+    {
+        Attached {
+            indexed: NameSet::new(alloc),
+            triggered: NameSet::new(alloc),
+        }
+    }
+
+    /// Adds the table that a row of the schema names with its index or trigger, if it is one's row.
+    pub fn add(&mut self, alloc: Global, row: &SchemaRow) -> Result<(), AllocError>
+        ensures indexed { OnOk result (AddsOn (codes "index") row.now self.old.indexed self.new.indexed) }
+        ensures triggered { OnOk result (AddsOn (codes "trigger") row.now self.old.triggered self.new.triggered) }
+    {
+        add_on(alloc, b"index", row, &mut self.indexed)?;
+        add_on(alloc, b"trigger", row, &mut self.triggered)
+    }
+
     /// Those that these rows of the schema name.
     pub fn new(alloc: Global, rows: &[SchemaRow]) -> Result<Attached, AllocError>
         ensures { IfOk result (Attaches rows.now) }
     {
-        Ok(Attached {
-            indexed: names_on(alloc, b"index", rows)?,
-            triggered: names_on(alloc, b"trigger", rows)?,
-        })
+        let mut attached = Attached::none(alloc);
+        let mut left = rows;
+        while let [row, rest @ ..] = left {
+            attached.add(alloc, row)?;
+            left = rest;
+        }
+        Ok(attached)
     }
 }
 

@@ -7,3 +7,11 @@ pub mod FoundLemmas
 pub mod PageLemmas
 pub mod TrunkLemmas
 pub mod IndexLemmas
+pub mod TableLemmas
+pub mod TableFanLemmas
+pub mod SortLemmas
+pub mod RowLemmas
+pub mod ObjectLemmas
+pub mod FreeLemmas
+pub mod VerdictLemmas
+pub mod Walks

@@ -7,7 +7,8 @@ use Rattle.spe_model.specs.Kind.{is_leaf}
 use Rattle.spe_model.specs.Page.{page_at}
 use Rattle.spe_model.specs.Paging.{Paging}
 use Rattle.spe_model.specs.Tree.{node_at, header_end}
-use Rattle.spe_model.specs.Walk.{Mark, Names, Keeps, is_legal, has_kind, is_leaf_page, is_sort, levels_at_leaf, page_marks}
+use Rattle.spe_model.specs.Walk.{Mark, Names, Keeps, is_legal, has_kind, is_leaf_page, is_sort, levels_at_leaf}
+use Rattle.spe_check.specs.declared.met.Met.{Met}
 use Rattle.spe_check.specs.declared.stop.Stop.{Stop}
 use Rattle.spe_check.specs.declared.stop.Stop.TheVariants.{Broken, Space}
 use Rattle.std.specs.Prelude.{IfOk}
@@ -16,8 +17,8 @@ use Rattle.spe_format.specs.Answers.{Fails}
 use Rattle.spe_space.specs.declared.fault.SpaceFault.{SpaceFault}
 use Rattle.spe_space.specs.declared.pages.Pages.{Ghosts}
 use Rattle.spe_space.specs.Outcome.{refusal_of}
-use Rattle.spe_check.specs.Pages.{is_of_sort, is_placed, stands_well, IsStand, IsStopOf, IsReading, place_marks, read_marks}
-use Rattle.spe_check.specs.Shown.{RefusesStop}
+use Rattle.spe_check.specs.Pages.{is_of_sort, is_placed, stands_well, IsStand, IsStopOf, IsReading, behind_read, place_marks, read_marks}
+use Rattle.spe_check.specs.Shown.{RefusesStop, Walked}
 use Rattle.spe_check.specs.Tries.{Breaks, Tries}
 use Rattle.spe_check.proofs.TriesLemmas.{tries_then, tries_stop, keeps_passes, the_ok, the_err}
 
@@ -87,12 +88,16 @@ read_refuses g a b page reading (Err (Broken q rule)) same is = same
 read_refuses g a b page reading (Err (Space f)) same is =
     let Q : SpaceFault → Type 0 = λ x. g.refusal b ≡ refusal_of x (g.refusal a) in subst Q (sym is) same
 
--- the marks of a page, by what it holds
-pub marks_are : (table : Bool) (usable : ℕ) (pages : Paging) (stand levels holder page : ℕ) (node : PageCells) → node_at usable pages page ≡ Ok node
-    → page_marks table usable pages stand levels holder page ≡ read_marks usable pages holder page ++ place_marks table levels stand page node.kind
-marks_are table usable pages stand levels holder page node is =
-    ap (λ (r : Result PageCells PageFault). Names holder page ∷ Keeps page 3 (is_legal (node_at usable pages page))
-    ∷ Keeps page 4 (has_kind (is_of_sort table) r) ∷ Keeps page 5 (not (levels == 0) && (not (has_kind is_leaf r) || (levels == stand))) ∷ []) is
+-- what is tried of a page behind reading it
+abbrev pub kind_marks : (table : Bool) (usable : ℕ) (pages : Paging) (stand levels page : ℕ) → List Mark
+kind_marks table usable pages stand levels page =
+    Keeps page 4 (is_sort table usable pages page) ∷ Keeps page 5 (not (levels == 0) && (not (is_leaf_page usable pages page) || (levels == stand))) ∷ []
+
+-- the same, by what the page holds
+pub placed_are : (table : Bool) (usable : ℕ) (pages : Paging) (stand levels page : ℕ) (node : PageCells) → node_at usable pages page ≡ Ok node
+    → kind_marks table usable pages stand levels page ≡ place_marks table levels stand page node.kind
+placed_are table usable pages stand levels page node is =
+    ap (λ (r : Result PageCells PageFault). Keeps page 4 (has_kind (is_of_sort table) r) ∷ Keeps page 5 (not (levels == 0) && (not (has_kind is_leaf r) || (levels == stand))) ∷ []) is
 
 -- a leaf is where its own first leaf stands
 pub first_at_leaf : (usable : ℕ) (pages : Paging) (levels page : ℕ) (node : PageCells) → node_at usable pages page ≡ Ok node
@@ -101,18 +106,45 @@ first_at_leaf usable pages zero page node is leaf some = absurd (omega (arith, s
 first_at_leaf usable pages (suc m) page node is leaf some =
     let here : is_leaf_page usable pages page ≡ true = ap (has_kind is_leaf) is ∙ leaf in rw here refl
 
-pub page_stop : (count : ℕ) (a b : ℕ → Bool) (table : Bool) (usable : ℕ) (pages : Paging) (stand levels holder page : ℕ) (stop : Stop)
-    → Tries count a b (read_marks usable pages holder page) (the_err PageCells stop)
-    → Tries count a b (page_marks table usable pages stand levels holder page) (the_err PageCells stop)
-page_stop count a b table usable pages stand levels holder page stop tried =
-    tries_stop PageCells PageCells count a b b (read_marks usable pages holder page)
-    (Keeps page 4 (is_sort table usable pages page) ∷ Keeps page 5 (not (levels == 0) && (not (is_leaf_page usable pages page) || (levels == stand))) ∷ []) stop tried
+-- the first page of a tree can't be read
+pub unread : (count : ℕ) (a b : ℕ → Bool) (usable : ℕ) (pages : Paging) (holder page : ℕ) (marks : List Mark) (stop : Stop)
+    → marks ≡ read_marks usable pages holder page ++ behind_read marks
+    → Tries count a b (read_marks usable pages holder page) (the_err PageCells stop) → Tries count a b marks (the_err ℕ stop)
+unread count a b usable pages holder page marks stop is tried =
+    let P : List Mark → Type 0 = λ ms. Tries count a b ms (the_err ℕ stop) in
+    subst P (sym is) (tries_stop PageCells ℕ count a b b (read_marks usable pages holder page) (behind_read marks) stop tried)
 
-pub page_last : (count : ℕ) (a b : ℕ → Bool) (table : Bool) (usable : ℕ) (pages : Paging) (stand levels holder page : ℕ) (node : PageCells) (r : Result PageCells Stop)
-    → node_at usable pages page ≡ Ok node → Tries count a b (read_marks usable pages holder page) (the_ok PageCells node)
-    → Tries count b b (place_marks table levels stand page node.kind) r
-    → Tries count a b (page_marks table usable pages stand levels holder page) r
-page_last count a b table usable pages stand levels holder page node r is read placed =
-    let P : List Mark → Type 0 = λ marks. Tries count a b marks r in
-    subst P (sym (marks_are table usable pages stand levels holder page node is))
-    (tries_then {X = PageCells} {Y = PageCells} count a b b (read_marks usable pages holder page) (place_marks table levels stand page node.kind) node r read placed)
+-- it is read, and the rest of the tree is tried
+pub from_read : (count now : ℕ) (a b c : ℕ → Bool) (usable : ℕ) (pages : Paging) (holder page : ℕ) (marks : List Mark) (node : PageCells) (r : Result ℕ Stop) → now ≡ count
+    → marks ≡ read_marks usable pages holder page ++ behind_read marks
+    → Tries count a b (read_marks usable pages holder page) (the_ok PageCells node) → Tries now b c (behind_read marks) r → Tries count a c marks r
+from_read count now a b c usable pages holder page marks node r same is read tried =
+    let P : List Mark → Type 0 = λ ms. Tries count a c ms r in
+    let Q : ℕ → Type 0 = λ n. Tries n b c (behind_read marks) r in
+    subst P (sym is) (tries_then {X = PageCells} {Y = ℕ} count a b c (read_marks usable pages holder page) (behind_read marks) node r read (subst Q same tried))
+
+-- the page does not stand well in its tree
+pub misplaced : (count : ℕ) (a : ℕ → Bool) (table : Bool) (usable : ℕ) (pages : Paging) (stand levels page : ℕ) (node : PageCells) (more : List Mark) (stop : Stop)
+    → node_at usable pages page ≡ Ok node → Tries count a a (place_marks table levels stand page node.kind) (the_err (Unit {0}) stop)
+    → Tries count a a (kind_marks table usable pages stand levels page ++ more) (the_err ℕ stop)
+misplaced count a table usable pages stand levels page node more stop is tried =
+    let P : List Mark → Type 0 = λ ms. Tries count a a ms (the_err (Unit {0}) stop) in
+    tries_stop (Unit {0}) ℕ count a a a (kind_marks table usable pages stand levels page) more stop (subst P (sym (placed_are table usable pages stand levels page node is)) tried)
+
+-- where nothing was got
+pub walked_none : {P : Type 0} (g : Ghosts P) (s : P) (met : Met) → Walked g s s met met
+walked_none g s met = record {
+  reads = record {
+    earlier = λ pages agrees. agrees;
+    laid = refl;
+    free = refl;
+    stands = λ pages agrees stood. stood;
+    told = refl;
+    size = refl;
+    used = refl;
+    limit = refl;
+    sealed = refl;
+    count = omega arith;
+  };
+  pages = refl;
+}

@@ -2,11 +2,10 @@
 use Rattle.std.specs.Prelude.{◌≡◌, ℕ, List}
 use Rattle.spe_model.specs.declared.recovery.Recovered.{Recovered}
 use Rattle.spe_model.specs.Content.{Content}
-use Rattle.spe_model.specs.Settled.{IsFound, page_in}
-use Rattle.spe_space.specs.Outcome.{IsInside}
+use Rattle.spe_model.specs.Settled.{IsFound}
 use Rattle.spe_check.specs.Held.{held_pages}
 
 abbrev pub GivesFound : Type 0
 GivesFound =
     (found : Recovered) (content : Content) (pages : List (List ℕ)) → IsFound found content pages
-    → (n : ℕ) → IsInside found.pages n → held_pages found.page_size content n ≡ page_in pages n
+    → held_pages found.page_size found.pages content ≡ pages

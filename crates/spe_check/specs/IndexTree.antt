@@ -1,13 +1,15 @@
 -- Walking over the tree of an index.
-use Rattle.std.specs.Prelude.{◌≡◌, ℕ, ◌-◌, List, Option, Some, None, Result, IfOk}
+use Rattle.std.specs.Prelude.{◌≡◌, ℕ, ◌-◌, List, Option, Some, None, Result, Ok, IfOk}
 use Rattle.spe_model.specs.declared.page.Cell.{Cell}
+use Rattle.spe_model.specs.declared.page.PageCells.{PageCells}
 use Rattle.spe_model.specs.Paging.{Paging}
-use Rattle.spe_model.specs.Walk.{cell_chain, chains_marks, first_child, index_fan_marks, index_marks, levels_at_leaf}
+use Rattle.spe_model.specs.Tree.{node_at}
+use Rattle.spe_model.specs.Walk.{Mark, cell_chain, chains_marks, first_child, index_fan_marks, index_marks, levels_at_leaf}
 use Rattle.spe_space.specs.declared.pages.Pages.{Ghosts}
 use Rattle.spe_check.specs.declared.met.Met.{Met}
 use Rattle.spe_check.specs.declared.stop.Stop.{Stop}
 use Rattle.spe_check.specs.MetPages.{has_met}
-use Rattle.spe_check.specs.Pages.{IsStand}
+use Rattle.spe_check.specs.Pages.{IsStand, behind_read}
 use Rattle.spe_check.specs.Shown.{Each}
 use Rattle.spe_check.specs.Tries.{Leads, Tries}
 
@@ -29,8 +31,14 @@ TriesIndex g late before after leaf levels holder page result =
     Each g late (λ usable pages. (stand : ℕ) → IsStand leaf stand (levels_at_leaf usable pages levels page)
     → Tries before.pages (has_met before) (has_met after) (index_marks usable pages stand levels holder page) result × IfOk result (λ level. stand ≡ level))
 
+-- the same, from a page on that was read and holds this
+abbrev pub TriesIndexFrom : {P : Type 0} (g : Ghosts P) (late : P) (before after : Met) (leaf : Option ℕ) (levels page : ℕ) → PageCells → Result ℕ Stop → Type 0
+TriesIndexFrom g late before after leaf levels page node result =
+    Each g late (λ usable pages. (stand holder : ℕ) → node_at usable pages page ≡ Ok node → IsStand leaf stand (levels_at_leaf usable pages levels page)
+    → Tries before.pages (has_met before) (has_met after) (behind_read (index_marks usable pages stand levels holder page)) result × IfOk result (λ level. stand ≡ level))
+
 -- in the loop over the children: what was tried, what is left, and where the first leaf stands
-pub record IsFanned (usable : ℕ) (pages : Paging) (before now : Met) (stand levels holder page : ℕ) (leaf : Option ℕ) (left : List Cell) (right : ℕ) : Type 0 where
-  pub tried : Leads before.pages (has_met before) (index_marks usable pages stand levels holder page) (has_met now)
+pub record IsFanned (usable : ℕ) (pages : Paging) (before now : Met) (all : List Mark) (stand levels page : ℕ) (leaf : Option ℕ) (left : List Cell) (right : ℕ) : Type 0 where
+  pub tried : Leads before.pages (has_met before) all (has_met now)
       (index_fan_marks (index_marks usable pages stand (levels - 1)) usable pages page left right)
   pub stands : IsStand leaf stand (levels_at_leaf usable pages (levels - 1) (first_child left right))

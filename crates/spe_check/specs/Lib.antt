@@ -3,6 +3,8 @@ pub mod Admits
 pub mod Given
 pub mod ReadOnly
 pub mod Tries
+pub mod Visitor
+pub mod Check
 pub mod Marked
 pub mod MetPages
 pub mod Shown
@@ -11,3 +13,9 @@ pub mod Found
 pub mod Pages
 pub mod Trunks
 pub mod IndexTree
+pub mod TableTree
+pub mod RecordRows
+pub mod SchemaRows
+pub mod Objects
+pub mod FreeLists
+pub mod Verdicts

@@ -1,12 +1,13 @@
 -- Trying a page of a tree.
-use Rattle.std.specs.Prelude.{◌≡◌, ℕ, ◌<◌, ◌==◌, ◌&&◌, ◌||◌, not, Bool, true, false, List, [], ◌∷◌, Option, Some, None, Result, Ok, Err, IfOk, if◌then◌else◌}
+use Rattle.std.specs.Prelude.{◌≡◌, ℕ, ◌<◌, ◌==◌, ◌&&◌, ◌||◌, not, Bool, true, false, List, [], ◌∷◌, Option, Some, None, Result, Ok, Err, IfOk, drop, if◌then◌else◌}
 use Rattle.spe_model.specs.declared.page.Kind.{Kind}
 use Rattle.spe_model.specs.declared.page.PageCells.{PageCells}
 use Rattle.spe_model.specs.declared.page.PageFault.{PageFault}
 use Rattle.spe_model.specs.Kind.{is_leaf, is_table}
 use Rattle.spe_model.specs.Paging.{Paging}
+use Rattle.spe_model.specs.Schema.{is_index_page}
 use Rattle.spe_model.specs.Tree.{node_at}
-use Rattle.spe_model.specs.Walk.{Mark, Names, Keeps, is_legal, levels_at_leaf, page_marks}
+use Rattle.spe_model.specs.Walk.{Mark, Names, Keeps, is_legal}
 use Rattle.spe_space.specs.declared.pages.Pages.{Ghosts}
 use Rattle.spe_check.specs.declared.met.Met.{Met}
 use Rattle.spe_model.specs.declared.page.PageFault.TheVariants.{Memory}
@@ -50,11 +51,13 @@ TriesRead g late before after holder page result =
     Each g late (λ usable pages. Tries before.pages (has_met before) (has_met after) (read_marks usable pages holder page) result
     × IfOk result (λ node. node_at usable pages page ≡ Ok node))
 
-abbrev pub TriesPage : {P : Type 0} (g : Ghosts P) (late : P) (before after : Met) (table : Bool) (leaf : Option ℕ) (levels holder page : ℕ) → Result PageCells Stop → Type 0
-TriesPage g late before after table leaf levels holder page result =
-    Each g late (λ usable pages. (stand : ℕ) → IsStand leaf stand (levels_at_leaf usable pages levels page)
-    → Tries before.pages (has_met before) (has_met after) (page_marks table usable pages stand levels holder page) result
-    × IfOk result (λ node. node_at usable pages page ≡ Ok node))
+-- whether the page is one of an index is seen from its kind
+abbrev pub TellsSort : {P : Type 0} (g : Ghosts P) (late : P) (page : ℕ) → Result PageCells Stop → Type 0
+TellsSort g late page result = Each g late (λ usable pages. IfOk result (λ node. is_index_page pages page ≡ not (is_table node.kind)))
+
+-- what is tried of a tree behind the marks of reading its first page
+abbrev pub behind_read : List Mark → List Mark
+behind_read marks = drop 2 marks
 
 -- why a page could not be read
 abbrev pub IsStopOf : (page : ℕ) → PageFault → Stop → Type 0

@@ -2,7 +2,7 @@
 use Rattle.std.specs.Prelude.{◌≡◌, ℕ, Result, Ok, Err}
 use Rattle.spe_model.specs.Paging.{Paging, Agrees, lay}
 use Rattle.spe_space.specs.Calls.{Reads}
-use Rattle.spe_space.specs.Outcome.{refusal_of}
+use Rattle.spe_space.specs.Outcome.{IsInside, OnPageOut, refusal_of}
 use Rattle.spe_space.specs.declared.pages.Pages.{Ghosts}
 use Rattle.spe_check.specs.declared.met.Met.{Met}
 use Rattle.spe_check.specs.declared.stop.Stop.{Stop}
@@ -28,3 +28,9 @@ abbrev pub RefusesStop : {P X : Type 0} → Ghosts P → P → P → Result X St
 RefusesStop g old new (Ok x) = g.refusal new ≡ g.refusal old
 RefusesStop g old new (Err (Space f)) = g.refusal new ≡ refusal_of f (g.refusal old)
 RefusesStop g old new (Err (Broken page rule)) = g.refusal new ≡ g.refusal old
+
+-- a page that the space has not is one that could be met
+abbrev pub AsksWithin : {X : Type 0} → Met → Result X Stop → Type 0
+AsksWithin met (Ok x) = Unit {0}
+AsksWithin met (Err (Broken page rule)) = Unit {0}
+AsksWithin met (Err (Space f)) = OnPageOut (IsInside met.pages) f

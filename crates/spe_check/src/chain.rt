@@ -3,7 +3,7 @@
 ghost use Rattle.std.specs.Prelude.{◌≡◌, ◌+◌, ◌≤◌, ◌==◌, ℕ, Bool, not, [], ◌∷◌, OnOk, IfErr, length};
 ghost use Rattle.spe_model.specs.Walk.{Mark, Keeps};
 ghost use Rattle.spe_check.specs.Chains.{kept_of, TriesLink, TriesChain};
-ghost use Rattle.spe_check.specs.Shown.{Walked, RefusesStop};
+ghost use Rattle.spe_check.specs.Shown.{Walked, RefusesStop, AsksWithin};
 ghost use Rattle.spe_check.specs.Tries.{IsBroken, Tries};
 
 use crate::met::Met;
@@ -68,6 +68,7 @@ fn try_link<S: Pages>(
     ensures tried { TriesLink S.Pages space.new met.old met.new holder page here wanted out.old.items out.new.items result }
     ensures walked { Walked S.Pages space.old space.new met.old met.new }
     ensures refusal { RefusesStop S.Pages space.old space.new result }
+    ensures asks { AsksWithin met.old result }
 {
     match try_some(holder, page) {
         Ok(()) => (),
@@ -100,6 +101,7 @@ pub fn try_chain<S: Pages>(
     ensures tried { TriesChain S.Pages space.new met.old met.new holder first bytes wanted out.old.items out.new.items result }
     ensures walked { Walked S.Pages space.old space.new met.old met.new }
     ensures refusal { RefusesStop S.Pages space.old space.new result }
+    ensures asks { AsksWithin met.old result }
 {
     let usable = space.usable();
     let mut at = holder;

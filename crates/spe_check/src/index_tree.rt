@@ -2,14 +2,14 @@
 
 ghost use Rattle.std.specs.Prelude.{◌≡◌, IfOk, length};
 ghost use Rattle.spe_model.specs.Tree.{rest_of};
-ghost use Rattle.spe_check.specs.IndexTree.{level_of, TriesCell, TriesChains, TriesIndex};
-ghost use Rattle.spe_check.specs.Shown.{Walked, RefusesStop};
+ghost use Rattle.spe_check.specs.IndexTree.{level_of, TriesCell, TriesChains, TriesIndex, TriesIndexFrom};
+ghost use Rattle.spe_check.specs.Shown.{Walked, RefusesStop, AsksWithin};
 
 use crate::chain::try_chain;
 use crate::met::Met;
-use crate::page::{is_leaf, try_page};
+use crate::page::{is_leaf, read_met, try_place};
 use crate::stop::Stop;
-use spe_model::Cell;
+use spe_model::{Cell, PageCells};
 use spe_space::Pages;
 use std::alloc::Global;
 
@@ -34,6 +34,7 @@ fn try_cell<S: Pages>(
     ensures tried { TriesCell S.Pages space.new met.old met.new page cell.now result }
     ensures walked { Walked S.Pages space.old space.new met.old met.new }
     ensures refusal { RefusesStop S.Pages space.old space.new result }
+    ensures asks { AsksWithin met.old result }
 {
     try_chain(
         space,
@@ -60,6 +61,7 @@ fn try_chains<S: Pages>(
     ensures tried { TriesChains S.Pages space.new met.old met.new page cells.now result }
     ensures walked { Walked S.Pages space.old space.new met.old met.new }
     ensures refusal { RefusesStop S.Pages space.old space.new result }
+    ensures asks { AsksWithin met.old result }
 {
     let mut left = cells;
     'cells: while let [cell, rest @ ..] = left {
@@ -73,7 +75,7 @@ fn try_chains<S: Pages>(
 }
 
 // How many levels are left at the first leaf, where none was met before this one.
-fn level_of(leaf: Option<u32>, levels: u32) -> u32
+pub fn level_of(leaf: Option<u32>, levels: u32) -> u32
     ensures { result ≡ level_of leaf levels }
 {
     match leaf {
@@ -97,6 +99,7 @@ fn walk_leaf<S: Pages>(
     ensures level { IfOk result (λ level. level ≡ levels) }
     ensures walked { Walked S.Pages space.old space.new met.old met.new }
     ensures refusal { RefusesStop S.Pages space.old space.new result }
+    ensures asks { AsksWithin met.old result }
 {
     match try_chains(space, met, page, cells, buf, spare) {
         Ok(()) => Ok(levels),
@@ -109,6 +112,7 @@ fn walk_leaf<S: Pages>(
 ///
 /// So many levels are left, the page among them; `leaf` says how many were left at the first leaf of
 /// the whole tree, where one was met. `buf` is one page long. Each page is got once.
+#[cycle(index)]
 pub fn walk_index<S: Pages>(
     alloc: Global,
     space: &mut S,
@@ -124,11 +128,39 @@ pub fn walk_index<S: Pages>(
     ensures tried { TriesIndex S.Pages space.new met.old met.new leaf levels holder page result }
     ensures walked { Walked S.Pages space.old space.new met.old met.new }
     ensures refusal { RefusesStop S.Pages space.old space.new result }
+    ensures asks { AsksWithin met.old result }
 {
-    let node = match try_page(alloc, space, met, false, leaf, levels, holder, page, buf) {
+    let node = match read_met(alloc, space, met, holder, page, buf) {
         Ok(node) => node,
         Err(stop) => return Err(stop),
     };
+    walk_index_from(alloc, space, met, leaf, levels, page, &node, buf, spare)
+}
+
+/// Goes on with the tree of an index from the page `page` on, which was met and read already and holds
+/// `node`. The page is not got again; the rest is as for `walk_index`.
+#[cycle(index)]
+pub fn walk_index_from<S: Pages>(
+    alloc: Global,
+    space: &mut S,
+    met: &mut Met,
+    leaf: Option<u32>,
+    levels: u32,
+    page: u32,
+    node: &PageCells,
+    buf: &mut [u8],
+    spare: &mut Vec<u8>,
+) -> Result<u32, Stop>
+    requires { length buf.old ≡ S.Pages.size space.old }
+    ensures tried { TriesIndexFrom S.Pages space.new met.old met.new leaf levels page node.now result }
+    ensures walked { Walked S.Pages space.old space.new met.old met.new }
+    ensures refusal { RefusesStop S.Pages space.old space.new result }
+    ensures asks { AsksWithin met.old result }
+{
+    match try_place(false, leaf, levels, page, node.kind) {
+        Ok(()) => (),
+        Err(stop) => return Err(stop),
+    }
     if is_leaf(node.kind) {
         let level = level_of(leaf, levels);
         return walk_leaf(space, met, level, page, node.cells.as_slice(), buf, spare);

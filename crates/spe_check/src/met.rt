@@ -1,9 +1,10 @@
 //! The pages that a walk has met.
 
-ghost use Rattle.std.specs.Prelude.{◌≡◌, ◌<◌, ◌/◌, ◌==◌, ◌||◌, ℕ, [], ◌∷◌, OnErr, false, IfOk, IfErr, length, vec_len};
+ghost use Rattle.std.specs.Prelude.{◌≡◌, ◌<◌, ◌/◌, ◌==◌, ◌||◌, ℕ, [], ◌∷◌, OnErr, false, IfOk, IfErr, OnOk, length, vec_len};
 ghost use Rattle.spe_check.specs.Marked.{is_marked};
 ghost use Rattle.spe_check.specs.Tries.{IsBroken, Tries};
 ghost use Rattle.spe_model.specs.Walk.{Mark, Names};
+ghost use Rattle.spe_space.specs.Outcome.{IsInside};
 
 use crate::stop::Stop;
 use std::alloc::{AllocError, Global};
@@ -36,6 +37,7 @@ impl Met {
         ensures tried { Tries self.old.pages (has_met self.old) (has_met self.new) (Names holder page ∷ []) result }
         ensures pages { self.new.pages ≡ self.old.pages }
         ensures broken { IfErr result IsBroken }
+        ensures inside { OnOk result (IsInside self.old.pages page) }
     {
         if page == 0 || page > self.pages {
             return Err(Stop::Broken {

@@ -4,8 +4,8 @@ ghost use Rattle.std.specs.Prelude.{◌≡◌, ◌≤◌, ◌<◌, ◌⊎◌, On
 ghost use Rattle.spe_model.specs.Kind.{is_leaf, is_table};
 ghost use Rattle.spe_model.specs.Page.{page_at};
 ghost use Rattle.spe_model.specs.Tree.{header_end};
-ghost use Rattle.spe_check.specs.Pages.{is_of_sort, stands_well, IsReading, IsStopOf, TriesRead, TriesPage, TriesPlace};
-ghost use Rattle.spe_check.specs.Shown.{Walked, RefusesStop};
+ghost use Rattle.spe_check.specs.Pages.{is_of_sort, stands_well, IsReading, IsStopOf, TriesRead, TriesPlace, TellsSort};
+ghost use Rattle.spe_check.specs.Shown.{Walked, RefusesStop, AsksWithin};
 ghost use Rattle.spe_check.specs.Tries.{IsBroken};
 
 use crate::met::Met;
@@ -23,7 +23,8 @@ pub fn is_leaf(kind: Kind) -> bool
     matches!(kind, Kind::TableLeaf | Kind::IndexLeaf)
 }
 
-fn is_table(kind: Kind) -> bool
+/// Whether pages of this kind stand in the tree of a table.
+pub fn is_table(kind: Kind) -> bool
     ensures { result ≡ is_table kind }
 {
     matches!(kind, Kind::TableLeaf | Kind::TableInterior)
@@ -56,8 +57,15 @@ fn header_of(page: u32) -> usize
     if page == 1 { 100 } else { 0 }
 }
 
-// Tries the rules of a page's kind and of its place in the tree.
-fn try_place(table: bool, leaf: Option<u32>, levels: u32, page: u32, kind: Kind) -> Result<(), Stop>
+/// Tries the rules of a page's kind and of its place in the tree. So many levels are left, it among
+/// them; `leaf` says how many were left at the first leaf of the tree, where one was met.
+pub fn try_place(
+    table: bool,
+    leaf: Option<u32>,
+    levels: u32,
+    page: u32,
+    kind: Kind,
+) -> Result<(), Stop>
     ensures tried { TriesPlace table leaf levels page kind result }
     ensures some { OnOk result (0 < levels) }
     ensures broken { IfErr result IsBroken }
@@ -98,8 +106,11 @@ fn node_in(
     }
 }
 
-// Meets a page, and reads what it holds.
-fn read_met<S: Pages>(
+/// Meets a page, whose number stands on the page `holder`, and reads what it holds. `buf` is one page
+/// long.
+///
+/// Broken is rule 1 or 2 as for any page that is met, and rule 3 where the page is not of the format.
+pub fn read_met<S: Pages>(
     alloc: Global,
     space: &mut S,
     met: &mut Met,
@@ -109,8 +120,10 @@ fn read_met<S: Pages>(
 ) -> Result<PageCells, Stop>
     requires { length buf.old ≡ S.Pages.size space.old }
     ensures tried { TriesRead S.Pages space.new met.old met.new holder page result }
+    ensures sort { TellsSort S.Pages space.new page result }
     ensures walked { Walked S.Pages space.old space.new met.old met.new }
     ensures refusal { RefusesStop S.Pages space.old space.new result }
+    ensures asks { AsksWithin met.old result }
 {
     match met.meet(holder, page) {
         Ok(()) => (),
@@ -119,34 +132,4 @@ fn read_met<S: Pages>(
     let usable = space.usable() as usize;
     space.get(page, buf)?;
     node_in(alloc, buf, header_of(page), usable, page)
-}
-
-/// Tries a page of a tree before its cells, and answers what it holds. Its number stands on the page
-/// `holder`; so many levels are left, it among them; `leaf` says how many were left at the first leaf
-/// of the tree, where one was met.
-pub fn try_page<S: Pages>(
-    alloc: Global,
-    space: &mut S,
-    met: &mut Met,
-    table: bool,
-    leaf: Option<u32>,
-    levels: u32,
-    holder: u32,
-    page: u32,
-    buf: &mut [u8],
-) -> Result<PageCells, Stop>
-    requires { length buf.old ≡ S.Pages.size space.old }
-    ensures tried { TriesPage S.Pages space.new met.old met.new table leaf levels holder page result }
-    ensures some { OnOk result (0 < levels) }
-    ensures walked { Walked S.Pages space.old space.new met.old met.new }
-    ensures refusal { RefusesStop S.Pages space.old space.new result }
-{
-    let node = match read_met(alloc, space, met, holder, page, buf) {
-        Ok(node) => node,
-        Err(stop) => return Err(stop),
-    };
-    match try_place(table, leaf, levels, page, node.kind) {
-        Ok(()) => Ok(node),
-        Err(stop) => Err(stop),
-    }
 }

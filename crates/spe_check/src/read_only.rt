@@ -1,12 +1,10 @@
 //! The pages of a database file, as a space that can only be read.
 
 ghost use Rattle.std.specs.Prelude.{false, true, None, refl};
-ghost use Rattle.std.specs.Ordering.{nat_cmp};
-ghost use Rattle.std.specs.BTreeMap.{get};
 ghost use Rattle.spe_model.specs.Verdict.{free_pages};
 ghost use Rattle.spe_model.specs.Walk.{is_met};
 ghost use Rattle.spe_check.specs.Admits.{admits_read};
-ghost use Rattle.spe_check.specs.Held.{told_pages};
+ghost use Rattle.spe_check.specs.Held.{given_in, told_pages};
 ghost use Rattle.spe_check.specs.ReadOnly.{AreListed};
 ghost use Rattle.spe_check.specs.Given.{at_most_itself, given_agrees};
 
@@ -28,9 +26,9 @@ impl<D: Disk, K: Origin> Pages for DiskSpace<D, K> {
 
     ghost sealed = { λ _. true };
 
-    ghost told = { λ s. told_pages K.told s.size };
+    ghost told = { λ s. told_pages K.told s.size s.pages };
 
-    ghost seen = { λ s page. get nat_cmp s.given page };
+    ghost seen = { λ s. given_in s.given.pages };
 
     ghost laid = { λ _ _. None };
 
@@ -42,7 +40,7 @@ impl<D: Disk, K: Origin> Pages for DiskSpace<D, K> {
 
     ghost refusal = { λ s. s.refusal };
 
-    ghost given = { λ s. given_agrees K.told s.size s.given s.held };
+    ghost given = { λ s. given_agrees K.told s.size s.pages (given_in s.given.pages) s.held };
 
     ghost settled = { λ _ _. refl };
 
@@ -60,15 +58,11 @@ impl<D: Disk, K: Origin> Pages for DiskSpace<D, K> {
         if !self.has(page) {
             return Err(self.refuse_page(page));
         }
-        if let Some(bytes) = self.given.get(&page) {
-            buf.copy_from_slice(bytes.as_slice());
-            return Ok(());
-        }
         match self.read(page, buf) {
             Ok(()) => (),
             Err(fault) => return Err(fault),
         }
-        self.keep(page, buf)?;
+        self.give(page, buf);
         Ok(())
     }
 

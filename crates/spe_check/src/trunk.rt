@@ -1,9 +1,9 @@
 //! Chains of trunks, which name free pages.
 
-ghost use Rattle.std.specs.Prelude.{◌≡◌, ◌+◌, ◌-◌, ◌*◌, ◌/◌, ◌≤◌, IfOk, IfErr, length, map, nat_le};
+ghost use Rattle.std.specs.Prelude.{◌≡◌, ◌+◌, ◌-◌, ◌*◌, ◌/◌, ◌^◌, ◌≤◌, IfOk, IfErr, length, map, nat_le};
 ghost use Rattle.spe_model.specs.Walk.{Mark, Names};
 ghost use Rattle.spe_check.specs.MetPages.{has_met};
-ghost use Rattle.spe_check.specs.Shown.{Walked, RefusesStop};
+ghost use Rattle.spe_check.specs.Shown.{Walked, RefusesStop, AsksWithin};
 ghost use Rattle.spe_check.specs.Trunks.{leaves_in, GetsMet, TriesTrunkBytes, TriesTrunk, TriesTrunks};
 ghost use Rattle.spe_check.specs.Tries.{IsBroken, Tries};
 
@@ -69,8 +69,8 @@ fn trunk_in(met: &mut Met, trunk: u32, bytes: &[u8], usable: usize) -> Result<Tr
     }
 }
 
-// Meets a page and gets it.
-fn get_met<S: Pages>(
+/// Meets a page, whose number stands on the page `holder`, and gets it.
+pub fn get_met<S: Pages>(
     space: &mut S,
     met: &mut Met,
     holder: u32,
@@ -81,6 +81,7 @@ fn get_met<S: Pages>(
     ensures tried { GetsMet S.Pages space.new met.old met.new holder page buf.new result }
     ensures walked { Walked S.Pages space.old space.new met.old met.new }
     ensures refusal { RefusesStop S.Pages space.old space.new result }
+    ensures asks { AsksWithin met.old result }
 {
     match met.meet(holder, page) {
         Ok(()) => (),
@@ -103,6 +104,7 @@ fn try_trunk<S: Pages>(
     ensures few { IfOk result (λ found. found.leaves ≤ 16384) }
     ensures walked { Walked S.Pages space.old space.new met.old met.new }
     ensures refusal { RefusesStop S.Pages space.old space.new result }
+    ensures asks { AsksWithin met.old result }
 {
     let usable = space.usable() as usize;
     match get_met(space, met, holder, trunk, buf) {
@@ -126,8 +128,10 @@ pub fn try_trunks<S: Pages>(
 ) -> Result<u64, Stop>
     requires { length buf.old ≡ S.Pages.size space.old }
     ensures tried { TriesTrunks S.Pages space.new met.old met.new holder first result }
+    ensures few { IfOk result (λ free. free ≤ 2 ^ 48) }
     ensures walked { Walked S.Pages space.old space.new met.old met.new }
     ensures refusal { RefusesStop S.Pages space.old space.new result }
+    ensures asks { AsksWithin met.old result }
 {
     let mut most = met.pages;
     let mut at = holder;

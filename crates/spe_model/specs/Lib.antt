@@ -37,3 +37,5 @@ pub mod FreeList
 pub mod Walk
 pub mod Verdict
 pub mod Standing
+pub mod Served
+pub mod Justified

@@ -1,5 +1,5 @@
 -- Pages by number, the first of which is 1, and pages that some call gave or put.
-use Rattle.std.specs.Prelude.{◌≡◌, ℕ, ◌≤◌, List, Option, IfSome, unwrap_or, IsTrue}
+use Rattle.std.specs.Prelude.{◌≡◌, ℕ, ◌≤◌, List, Option, All, unwrap_or, IsTrue}
 use Rattle.spe_model.specs.Header.{is_page_size}
 
 -- the bytes of each page
@@ -10,9 +10,13 @@ Paging = ℕ → List ℕ
 abbrev pub PageMap : Type 0
 PageMap = ℕ → Option (List ℕ)
 
--- each page that `seen` lists is that page of `pages`
-pub record Agrees (pages : Paging) (seen : PageMap) : Type 0 where
-  pub each : (n : ℕ) → IfSome (seen n) (λ bytes. pages n ≡ bytes)
+-- the bytes of some pages, each as often as it was given
+abbrev pub Given : Type 0
+Given = ℕ → List (List ℕ)
+
+-- each page was given as it is in `pages`; where one was given with different bytes, no pages agree
+pub record Agrees (pages : Paging) (seen : Given) : Type 0 where
+  pub each : (n : ℕ) → All (λ bytes. pages n ≡ bytes) (seen n)
 
 -- `pages` with `laid` laid over them
 abbrev pub lay : PageMap → Paging → Paging

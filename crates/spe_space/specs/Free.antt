@@ -1,10 +1,10 @@
 -- Free pages, as tests of page numbers before and after a call.
 use Rattle.std.specs.Prelude.{◌≡◌, ◌≢◌, ◌⊎◌, ℕ, ◌+◌, ◌<◌, ◌≤◌, List, take, Bool, false, IsTrue}
-use Rattle.spe_model.specs.Paging.{Paging, PageMap, Agrees}
+use Rattle.spe_model.specs.Paging.{Paging, Given, Agrees}
 use Rattle.spe_space.specs.Front.{number_in, list_in}
 
 -- whatever the pages are below, as long as they agree with what was given and stand
-abbrev pub EachStanding : (seen : PageMap) (stands : Paging → Type 0) → (Paging → Type 0) → Type 0
+abbrev pub EachStanding : (seen : Given) (stands : Paging → Type 0) → (Paging → Type 0) → Type 0
 EachStanding seen stands P = (pages : Paging) → Agrees pages seen → stands pages → P pages
 
 -- the bytes may be put on the page, and no free page is touched: it is not free and not the one that page 1 names as the
@@ -45,6 +45,6 @@ pub record IsGrown (old new : ℕ → Bool) (first : ℕ) : Type 0 where
   pub freed : (n : ℕ) → IsNew first n → n ≢ first → IsTrue (new n)
   pub others : (n : ℕ) → (IsNew first n → ⊥) → new n ≡ old n
 
--- each page on which two lists of pages differ is one of these
-abbrev pub DifferAt : (old new : PageMap) → (ℕ → Type 0) → Type 0
+-- each page of which two lists of pages say something else is one of these
+abbrev pub DifferAt : {X : Type 0} (old new : ℕ → X) → (ℕ → Type 0) → Type 0
 DifferAt old new P = (n : ℕ) → (new n ≡ old n) ⊎ P n

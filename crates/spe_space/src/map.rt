@@ -1,6 +1,6 @@
 //! Pages in memory.
 
-ghost use Rattle.std.specs.Prelude.{◌≡◌, ◌≢◌, ℕ, List, replicate, ◌<◌, ◌≤◌, ◌⊎◌, ◌+◌, ◌-◌, ◌*◌, ◌&&◌, nat_le, nat_lt, true, false, All, IsTrue, vec_len, length, IfOk, None, Some};
+ghost use Rattle.std.specs.Prelude.{◌≡◌, ◌≢◌, ℕ, List, [], replicate, ◌<◌, ◌≤◌, ◌⊎◌, ◌+◌, ◌-◌, ◌*◌, ◌&&◌, nat_le, nat_lt, true, false, All, IsTrue, vec_len, length, IfOk, None, Some};
 ghost use Rattle.std.specs.Ordering.{nat_cmp};
 ghost use Rattle.std.specs.BTreeSet.{contains};
 ghost use Rattle.spe_model.specs.Paging.{IsPageSize};
@@ -49,7 +49,7 @@ impl MapSpace {
         ensures count { IfOk result (λ it. map_count it ≡ pages) }
         ensures limit { IfOk result (λ it. map_limit it ≡ limit) }
         ensures below { IfOk result (λ it. (n : ℕ) → IsInside pages n → map_below it n ≡ Some (replicate page_size 0)) }
-        ensures seen { IfOk result (λ it. (n : ℕ) → map_seen it n ≡ None) }
+        ensures seen { IfOk result (λ it. (n : ℕ) → map_seen it n ≡ []) }
         ensures laid { IfOk result (λ it. (n : ℕ) → map_laid it n ≡ None) }
         ensures free { IfOk result (λ it. (n : ℕ) → map_free it n ≡ false) }
         ensures refusal { IfOk result (λ it. map_refusal it ≡ None) }
@@ -79,7 +79,7 @@ impl MapSpace {
     pub fn load(&mut self, page: u32, bytes: &[u8])
         requires inside { IsInside (map_count self.old) page }
         requires size { length bytes.now ≡ map_size self.old }
-        requires fresh { map_seen self.old page ≡ None }
+        requires fresh { map_seen self.old page ≡ [] }
         ensures below { map_below self.new page ≡ Some bytes.now }
         ensures others { (n : ℕ) → n ≢ page → map_below self.new n ≡ map_below self.old n }
         ensures seen { map_seen self.new ≡ map_seen self.old }

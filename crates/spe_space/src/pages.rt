@@ -1,10 +1,10 @@
 //! What every space of pages does.
 
 ghost use Rattle.std.specs.Prelude.{◌≡◌, ◌≢◌, ◌⊎◌, ◌+◌, ◌<◌, ◌≤◌, ℕ, Bool, false, Option, replicate, length, Some, IsSome, IsTrue, IfOk, IfErr, IfSome, OnOk, OnErr};
-ghost use Rattle.spe_model.specs.Paging.{Paging, PageMap, Agrees, lay, IsPageSize, IsUsableSize};
+ghost use Rattle.spe_model.specs.Paging.{Paging, PageMap, Given, Agrees, lay, IsPageSize, IsUsableSize};
 ghost use Rattle.spe_space.specs.declared.fault.SpaceFault.{SpaceFault as Fault};
 ghost use Rattle.spe_space.specs.Free.{EachStanding, IsApart, IsSame, IsNew};
-ghost use Rattle.spe_space.specs.Front.{number_in, recounted, SpoilsFront, SpoilsGrowth};
+ghost use Rattle.spe_space.specs.Front.{number_in, recounted, IsGiven, SpoilsFront, SpoilsGrowth};
 ghost use Rattle.spe_space.specs.Outcome.{refusal_after, IsInside, Fits, FitsGet, FitsPut, FitsExtend, OnCorrupt};
 
 use crate::fault::SpaceFault;
@@ -13,6 +13,8 @@ use crate::fault::SpaceFault;
 ///
 /// Nothing is known of a page before it was given or put, since others may change it until then. So
 /// what is said of pages is said of every list of pages below the space that agrees with those given.
+/// A page may be given more than once. Such a list agrees with each time: where a space that does not
+/// tell its pages gave different bytes for one page, none does, and nothing is said of pages any more.
 pub trait Pages {
     // The bytes of a page.
     ghost size: { Self → ℕ };
@@ -35,8 +37,8 @@ pub trait Pages {
     // The pages below the space, where it tells them.
     ghost told: { Self → Option Paging };
 
-    // The pages that were given, as they were below the space.
-    ghost seen: { Self → PageMap };
+    // The pages that were given, as they were below the space: of each, the bytes of each time that counts.
+    ghost seen: { Self → Given };
 
     // The pages that were put, with their newest bytes.
     ghost laid: { Self → PageMap };
@@ -66,7 +68,8 @@ pub trait Pages {
 
     /// Copies a page into `buf`: its newest bytes where it was put, else those below the space.
     ///
-    /// A page that was neither put nor given before is given from now on.
+    /// A page that was not put is given by this. Where it was given before, the space may give other bytes
+    /// now only if it does not tell its pages.
     fn get(&mut self, page: u32, buf: &mut [u8]) -> Result<(), SpaceFault>
         requires { length buf.old ≡ size self.old }
         ensures ok { OnOk result ((pages : Paging) → Agrees pages (seen self.new)
@@ -167,7 +170,7 @@ pub trait Pages {
     ghost given: { (s : Self) → IfSome (told s) (λ pages. Agrees pages (seen s)) };
 
     // No other adds pages once page 1 was given or put.
-    ghost settled: { (s : Self) → IsSome (seen s 1) ⊎ IsSome (laid s 1) → shared s ≡ false };
+    ghost settled: { (s : Self) → IsGiven (seen s) 1 ⊎ IsSome (laid s 1) → shared s ≡ false };
 
     // There is a page 1, and never more pages than there may be.
     ghost within: { (s : Self) → IsInside (limit s) (count s) };

@@ -24,7 +24,7 @@ sort_of : (usable : ℕ) (pages : Paging) (rows : List SchemaRow) (row : SchemaR
 sort_of usable pages rows row stored rowid (Table table found) is = sym is.0
 sort_of usable pages rows row stored rowid (Other kind name on) is = sym is.0
 
-tables_count : (usable : ℕ) (pages : Paging) (all rows : List SchemaRow) (trees : List (Option Tree)) (db : Database)
+pub tables_count : (usable : ℕ) (pages : Paging) (all rows : List SchemaRow) (trees : List (Option Tree)) (db : Database)
     → AreEntries usable pages all rows trees db → tables_in db ≡ length (filter is_table_row rows)
 tables_count usable pages all [] [] [] are = refl
 tables_count usable pages all [] [] (o ∷ os) are = absurd are

@@ -6,8 +6,9 @@ use Rattle.std.proofs.lemmas.Bool.{ltb-false}
 use Rattle.spe_model.specs.declared.header.Header.{Header}
 use Rattle.spe_model.specs.declared.header.HeaderFault.{HeaderFault}
 use Rattle.spe_model.specs.Header.{faults, fields, has_fault, header_of, page_size_at, unless}
+use Rattle.spe_model.specs.Served.{usable_in}
 use Rattle.spe_model.specs.Standing.{StandsFor}
-use Rattle.spe_verdict.specs.Law.{LegalUnbrokenStand, LegalStandingAreUnbroken, usable_in}
+use Rattle.spe_verdict.specs.Law.{LegalUnbrokenStand, LegalStandingAreUnbroken}
 use Rattle.spe_verdict.proofs.StandLemmas.{complete, sound}
 
 -- no element passes
@@ -29,7 +30,7 @@ no_fault None made header is = (refl, cc)
 no_fault (Some fault) made header is = absurd cc
 
 -- a legal header leaves enough of each page
-legal_usable : (bytes : List ℕ) (header : Header) → header_of bytes ≡ Ok header → 480 ≤ usable_in header
+pub legal_usable : (bytes : List ℕ) (header : Header) → header_of bytes ≡ Ok header → 480 ≤ usable_in header
 legal_usable bytes header is =
     let found = no_fault (find (has_fault bytes) faults) (fields bytes) header is in
     let none = none_passes (has_fault bytes) faults found.0 in

@@ -17,3 +17,6 @@ pub mod OneLemmas
 pub mod CountLemmas
 pub mod HeaderLemmas
 pub mod VerdictLemmas
+pub mod BoundLemmas
+pub mod RootLemmas
+pub mod FrameLemmas

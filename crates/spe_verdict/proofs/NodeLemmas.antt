@@ -79,7 +79,7 @@ if_some : {A : Type 0} (b : Bool) (o : Option A) (y : A) → (if b then None els
 if_some true o y is = absurd cc
 if_some false o y is = is
 
-if_ok : (b : Bool) (fault : PageFault) (r : Result PageCells PageFault) (page : PageCells) → (if b then Err fault else r) ≡ Ok page → r ≡ Ok page
+pub if_ok : (b : Bool) (fault : PageFault) (r : Result PageCells PageFault) (page : PageCells) → (if b then Err fault else r) ≡ Ok page → r ≡ Ok page
 if_ok true fault r page is = absurd cc
 if_ok false fault r page is = is
 

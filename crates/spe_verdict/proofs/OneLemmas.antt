@@ -23,7 +23,7 @@ tree_of table height root = record { table = table; height = height; root = root
 same_parts : (t u : Bool) (h k r s : ℕ) → t ≡ u → h ≡ k → r ≡ s → tree_of t h r ≡ tree_of u k s
 same_parts t u h k r s sort height root = rw (sort, height, root) refl
 
-same_tree : (usable : ℕ) (pages : Paging) (root : ℕ) (a b : Tree) → HasTree usable pages root (Some a) → HasTree usable pages root (Some b) → a ≡ b
+pub same_tree : (usable : ℕ) (pages : Paging) (root : ℕ) (a b : Tree) → HasTree usable pages root (Some a) → HasTree usable pages root (Some b) → a ≡ b
 same_tree usable pages root a b x y =
     let at_a = subst (HasLeaves usable pages a.height) x.1 (leaves_of_grown usable pages a.table a.height a.root x.3) in
     let at_b = subst (HasLeaves usable pages b.height) y.1 (leaves_of_grown usable pages b.table b.height b.root y.3) in

@@ -1,12 +1,13 @@
 -- The law of verdicts: no rule of the walk is broken exactly where the pages stand for a database. It is one at most, and
 -- the verdict counts what it has.
-use Rattle.std.specs.Prelude.{◌≡◌, ℕ, ℤ, ◌-◌, ◌≤◌, Bool, true, false, List, [], length, take, map, filter, sum, None, Ok}
+use Rattle.std.specs.Prelude.{◌≡◌, ℕ, ℤ, ◌≤◌, Bool, true, false, List, [], length, take, map, filter, sum, None, Ok}
 use Rattle.std.specs.List.{flat_map}
 use Rattle.spe_model.specs.declared.header.Header.{Header}
 use Rattle.spe_model.specs.declared.verdict.Verdict.TheVariants as verdicts
 use Rattle.spe_model.specs.Database.{Database, Object, Table, Other}
 use Rattle.spe_model.specs.Header.{header_of}
 use Rattle.spe_model.specs.Paging.{Paging}
+use Rattle.spe_model.specs.Served.{usable_in}
 use Rattle.spe_model.specs.Standing.{FreeChain, Stands, StandsFor, chain_of_free}
 use Rattle.spe_model.specs.Verdict.{all_marks, verdict_of}
 use Rattle.spe_model.specs.Walk.{first_broken}
@@ -61,10 +62,6 @@ StandsIsTrue = (usable count : ℕ) (pages : Paging) (tables rows free : ℕ) �
 abbrev pub BrokenIsTrue : Type 0
 BrokenIsTrue = (usable count : ℕ) (pages : Paging) (page rule : ℕ) → 480 ≤ usable → verdict_of usable count pages ≡ verdicts.Broken page rule
     → (db : Database) → StandsFor usable count pages db → ⊥
-
--- how many bytes of each page the format uses
-abbrev pub usable_in : Header → ℕ
-usable_in header = header.page_size - header.reserved
 
 -- the same two facts for pages with a legal header
 abbrev pub LegalUnbrokenStand : Type 0

@@ -1,1 +1,4 @@
 pub mod Law
+pub mod Bounds
+pub mod Roots
+pub mod Frames

@@ -1,5 +1,7 @@
 //! The law of verdicts.
 
+ghost use Rattle.spe_verdict.specs.Bounds.{FreeAreFew, RowsAreFew, TablesAreFew};
+ghost use Rattle.spe_verdict.specs.Frames.{FramedAreServed};
 ghost use Rattle.spe_verdict.specs.Law.{
   BrokenIsTrue,
   LegalStandingAreUnbroken,
@@ -10,6 +12,7 @@ ghost use Rattle.spe_verdict.specs.Law.{
   UnbrokenStand,
   VerdictCounts,
 };
+ghost use Rattle.spe_verdict.specs.Roots.{ServedAreFramed, ServedForOne, ServedStand};
 
 /// No rule of the walk is broken exactly where the pages stand for a database, and there is one such database
 /// at most.
@@ -30,4 +33,23 @@ pub fn counts_law()
 pub fn legal_law()
     ensures sound { LegalUnbrokenStand }
     ensures complete { LegalStandingAreUnbroken }
+{}
+
+/// How many tables, rows and free pages there are at most.
+pub fn bounds_law()
+    ensures tables { TablesAreFew }
+    ensures rows { RowsAreFew }
+    ensures free { FreeAreFew }
+{}
+
+/// Served pages stand, for one database, and are framed for the roots of their schema.
+pub fn served_law()
+    ensures stand { ServedStand }
+    ensures framed { ServedAreFramed }
+    ensures one { ServedForOne }
+{}
+
+/// Pages that are framed for the roots of their schema are served for the objects of its rows.
+pub fn framed_law()
+    ensures served { FramedAreServed }
 {}

@@ -5,4 +5,4 @@
 
 mod law;
 
-pub use law::{counts_law, legal_law, verdict_law};
+pub use law::{bounds_law, counts_law, framed_law, legal_law, served_law, verdict_law};

@@ -4,7 +4,7 @@ ghost use Rattle.std.specs.Prelude.{◌≡◌, IfOk, None};
 ghost use Rattle.spe_space.specs.View.{map_refusal};
 
 use crate::tests::space::{Filling, lay};
-use spe_catalog::read_catalog;
+use spe_catalog::{leaf, read_catalog};
 use spe_freelist::read_node;
 use spe_model::Entry;
 use spe_space::{MapSpace, TreeFault};
@@ -44,13 +44,35 @@ static KINDS: [Patch; 11] = [
 // The tables that it names: name, root page, the reason why it is closed or 0, and its columns.
 const TABLES: &str = "a 2 0 id* v|b 3 2|c 4 3 x|d 6 4 x|f 7 2|sqlite_sequence 9 1 name seq|";
 
-fn space_of(alloc: Global, pages: u32, patches: &[Patch]) -> Result<MapSpace, AllocError>
+// Page 1 names page 8 up to the key 9, and page 7 above it, which has the row 10 of a table `h`.
+static MORE: [Patch; 4] = [
+    (103, b"\x00\x01\x01\xfb\x00\x00\x00\x00\x07\x01\xfb"),
+    (507, b"\x00\x00\x00\x08\x09"),
+    (3075, b"\x00\x01\x01\xdf\x00\x01\xdf"),
+    (
+        3551,
+        b"\x1f\x0a\x06\x17\x0f\x0f\x01/tablehh\x03CREATE TABLE h(x)",
+    ),
+];
+
+const MORE_TABLES: &str =
+    "a 2 0 id* v|b 3 2|c 4 3 x|d 6 4 x|f 7 2|sqlite_sequence 9 1 name seq|h 3 0 x|";
+
+fn lay_all(file: &mut [u8], patches: &[Patch]) {
+    for (at, bytes) in patches {
+        lay(file, *at, *bytes);
+    }
+}
+
+fn file_of(alloc: Global, pages: u32, patches: &[Patch]) -> Result<Vec<u8>, AllocError> {
+    let mut file = vec![in alloc; 0u8; 512 * pages as usize]?;
+    lay_all(&mut file, patches);
+    Ok(file)
+}
+
+fn space_of(alloc: Global, pages: u32, file: &[u8]) -> Result<MapSpace, AllocError>
     ensures { IfOk result (λ space. map_refusal space ≡ None) }
 {
-    let mut file = vec![in alloc; 0u8; 512 * pages as usize]?;
-    for (at, bytes) in patches {
-        lay(&mut file, *at, *bytes);
-    }
     let mut filling = Filling::new(alloc, false, pages)?;
     for page in 1..=pages {
         let from = 512 * (page as usize - 1);
@@ -79,17 +101,114 @@ fn put_entry(alloc: Global, out: &mut String, entry: &Entry) -> Result<(), Alloc
     out.push('|')
 }
 
-#[test]
-fn catalog(rt: HostRuntime) -> Result<(), Fail> {
-    let alloc = rt.alloc();
-    let mut space = space_of(alloc, 9, &KINDS)?;
+fn expect_tables<R: Abort>(
+    rt: &R,
+    alloc: Global,
+    file: &[u8],
+    tables: &str,
+) -> Result<(), AllocError> {
+    let mut space = space_of(alloc, 9, file)?;
     let mut found = String::new(alloc);
     if let Ok(catalog) = read_catalog(alloc, &mut space) {
         for entry in catalog.as_slice() {
             put_entry(alloc, &mut found, entry)?;
         }
     }
-    assert_eq!(rt; found.as_str(), TABLES);
+    assert_eq!(rt; found.as_str(), tables);
+    Ok(())
+}
+
+#[test]
+fn catalog(rt: HostRuntime) -> Result<(), Fail> {
+    let alloc = rt.alloc();
+    let mut file = file_of(alloc, 9, &KINDS)?;
+    expect_tables(&rt, alloc, &file, TABLES)?;
+    lay_all(&mut file, &MORE);
+    expect_tables(&rt, alloc, &file, MORE_TABLES)?;
+    Ok(())
+}
+
+// Damage to the schema whose leaves are 8 and 7, and the leaf that is named for it.
+static DAMAGES: [(&str, &[Patch], u32); 10] = [
+    ("no record in row 3", &[(3948, b"\x0a")], 8),
+    ("no record in row 9", &[(3618, b"\x0a")], 8),
+    ("no record in row 10", &[(3554, b"\x0a")], 7),
+    ("a name that is a blob in row 10", &[(3555, b"\x0e")], 7),
+    (
+        "a table's name that is a blob in row 3",
+        &[(3950, b"\x0e")],
+        8,
+    ),
+    ("two tables of one name on one leaf", &[(3958, b"b")], 8),
+    ("two tables of one name on two leaves", &[(3564, b"a")], 7),
+    ("the same in other letters", &[(3564, b"A")], 7),
+    (
+        "a root past 32 bits in row 10",
+        &[(3557, b"\x05%"), (3566, b"\x00\x01\x00\x00\x00\x00")],
+        7,
+    ),
+    (
+        "no record in the rows 3 and 10",
+        &[(3554, b"\x0a"), (3948, b"\x0a")],
+        8,
+    ),
+];
+
+// The page that is named as corrupt, or 0.
+fn corrupt_in<T: Drop>(found: Result<T, TreeFault>) -> u32 {
+    match found {
+        Err(TreeFault::Corrupt { page }) => page,
+        _ => 0,
+    }
+}
+
+fn expect_corrupt<R: Abort>(
+    rt: &R,
+    alloc: Global,
+    name: &str,
+    changes: &[Patch],
+    page: u32,
+) -> Result<(), AllocError> {
+    let mut file = file_of(alloc, 9, &KINDS)?;
+    lay_all(&mut file, &MORE);
+    lay_all(&mut file, changes);
+    let mut space = space_of(alloc, 9, &file)?;
+    let found = corrupt_in(read_catalog(alloc, &mut space));
+    assert_eq!(rt; found, page, "{name}");
+    Ok(())
+}
+
+#[test]
+fn damages(rt: HostRuntime) -> Result<(), Fail> {
+    for (name, changes, page) in &DAMAGES {
+        expect_corrupt(&rt, rt.alloc(), *name, *changes, *page)?;
+    }
+    Ok(())
+}
+
+// A rowid, and the leaf of the schema in which it belongs.
+static LEAVES: [(i64, u32); 5] = [(i64::MIN, 8), (1, 8), (9, 8), (10, 7), (i64::MAX, 7)];
+
+fn expect_leaf<R: Abort>(
+    rt: &R,
+    alloc: Global,
+    file: &[u8],
+    rowid: i64,
+    page: u32,
+) -> Result<(), AllocError> {
+    let mut space = space_of(alloc, 9, file)?;
+    let found = leaf(alloc, &mut space, 1, rowid);
+    assert_eq!(rt; found, Ok(page), "{rowid}");
+    Ok(())
+}
+
+#[test]
+fn leaves(rt: HostRuntime) -> Result<(), Fail> {
+    let mut file = file_of(rt.alloc(), 9, &KINDS)?;
+    lay_all(&mut file, &MORE);
+    for (rowid, page) in &LEAVES {
+        expect_leaf(&rt, rt.alloc(), &file, *rowid, *page)?;
+    }
     Ok(())
 }
 
@@ -108,7 +227,8 @@ fn expect_node<R: Abort>(
     front: &'static [u8],
     firsts: &[u32],
 ) -> Result<(), AllocError> {
-    let mut space = space_of(alloc, 6, &[(1536, front)])?;
+    let file = file_of(alloc, 6, &[(1536, front)])?;
+    let mut space = space_of(alloc, 6, &file)?;
     match read_node(alloc, &mut space, 4) {
         Ok(trunks) => assert_eq!(rt; trunks.as_slice(), firsts),
         Err(fault) => {

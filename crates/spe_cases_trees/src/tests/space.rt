@@ -1,6 +1,6 @@
 //! Pages in memory, filled before any of them is given.
 
-ghost use Rattle.std.specs.Prelude.{◌≡◌, ℕ, None};
+ghost use Rattle.std.specs.Prelude.{◌≡◌, ℕ, [], None};
 ghost use Rattle.spe_space.specs.View.{map_size, map_count, map_seen, map_refusal};
 
 use spe_space::{MapSpace, PageSpace, Pages, SpaceFault};
@@ -23,7 +23,7 @@ pub struct Filling {
     pages: u32,
     ghost sized: { map_size space ≡ size },
     ghost counted: { map_count space ≡ pages },
-    ghost fresh: { (n : ℕ) → map_seen space n ≡ None },
+    ghost fresh: { (n : ℕ) → map_seen space n ≡ [] },
     ghost well: { map_refusal space ≡ None },
 }
 

@@ -4,7 +4,10 @@ use Rattle.std.specs.declared.alloc.Global.{Global}
 use Rattle.spe_model.specs.declared.catalog.Entry.{Entry}
 use Rattle.spe_model.specs.Schema.{is_index_page}
 use Rattle.spe_space.specs.Calls.{sight, reads_both}
+use Rattle.spe_space.specs.Found.{missing_weaker}
 use Rattle.spe_catalog.specs.Reader.{tables_of}
+use Rattle.spe_catalog.specs.Asks.{IsRootIn}
+use Rattle.spe_catalog.proofs.AsksLemmas.{first_in, rest_in, adds_both}
 use Rattle.spe_catalog.proofs.ReadingLemmas.{front_is}
 use Rattle.spe_catalog.proofs.ReaderLemmas.{answers_fault, made_more, made_end, row_number}
 use Rattle.spe_catalog.proofs.reader.entries.Goals as goal
@@ -28,6 +31,12 @@ loop-left-preserved g c = record {
       (front_is c.loop-left.left.now c.row-item.result _ (omega (arith, c.in-len1-up.len_at_least)) c.row-item.is refl)
       (c.loop-left.invariant.made pages (c.in-Ok.ensures.kept.earlier pages agrees) all attaches numbers)
       (λ number. rw c.loop-left.invariant.kept.laid at (c.in-Ok.ensures.made pages agrees all attaches number));
+  adds = adds_both g.S.Pages c.args.space.now c.loop-left.space c.push_entry.new.space (IsRootIn c.args.rows.now) (IsRootIn (c.row-item.result ∷ [])) (IsRootIn c.args.rows.now)
+      c.loop-left.invariant.adds c.in-Ok.ensures.adds (λ n has. has)
+      (λ n root. c.loop-left.invariant.inside n
+      (first_in c.loop-left.left.now _ c.row-item.result (front_is c.loop-left.left.now c.row-item.result _ (omega (arith, c.in-len1-up.len_at_least)) c.row-item.is refl) n root));
+  inside = λ n root. c.loop-left.invariant.inside n
+      (rest_in c.loop-left.left.now _ c.row-item.result (front_is c.loop-left.left.now c.row-item.result _ (omega (arith, c.in-len1-up.len_at_least)) c.row-item.is refl) n root);
 }
 
 pub returns-clause-made : goal.returns-clause-made
@@ -35,3 +44,18 @@ returns-clause-made g c = λ pages agrees all attaches numbers.
     made_end (is_index_page (sight g.S.Pages c.args.space.now pages)) all c.loop-left.left.now c.loop-left.found.items
     (tables_of (is_index_page (sight g.S.Pages c.args.space.now pages)) all c.args.rows.now) (omega (arith, c.in_default.len_below))
     (c.loop-left.invariant.made pages agrees all attaches numbers).1
+
+pub returns-in-Err-clause-adds : goal.returns-in-Err-clause-adds
+returns-in-Err-clause-adds g c =
+    let front = front_is c.loop-left.left.now c.row-item.result _ (omega (arith, c.in-len1-up.len_at_least)) c.row-item.is refl in
+    adds_both g.S.Pages c.args.space.now c.loop-left.space c.push_entry.new.space (IsRootIn c.args.rows.now) (IsRootIn (c.row-item.result ∷ [])) (IsRootIn c.args.rows.now)
+    c.loop-left.invariant.adds c.in-Err.ensures.adds (λ n has. has) (λ n root. c.loop-left.invariant.inside n (first_in c.loop-left.left.now _ c.row-item.result front n root))
+
+pub returns-in-Err-clause-page_out : goal.returns-in-Err-clause-page_out
+returns-in-Err-clause-page_out g c =
+    let front = front_is c.loop-left.left.now c.row-item.result _ (omega (arith, c.in-len1-up.len_at_least)) c.row-item.is refl in
+    missing_weaker (IsRootIn (c.row-item.result ∷ [])) (IsRootIn c.args.rows.now) c.in-Err.fault
+    (λ n root. c.loop-left.invariant.inside n (first_in c.loop-left.left.now _ c.row-item.result front n root)) c.in-Err.ensures.page_out
+
+pub returns-clause-adds : goal.returns-clause-adds
+returns-clause-adds g c = c.loop-left.invariant.adds

@@ -1,5 +1,5 @@
-use Rattle.spe_check.proofs.FoundLemmas.{found_page}
+use Rattle.spe_check.proofs.FoundLemmas.{found_are}
 use Rattle.spe_check.proofs.found.found_pages.Goals as goal
 
 pub returns : goal.returns
-returns c = found_page
+returns c = found_are

@@ -1,4 +1,5 @@
-use Rattle.std.proofs.Common.{ℕ, List, Option, ◌∙◌, ap}
+use Rattle.std.proofs.Common.{◌∙◌, ap}
+use Rattle.spe_model.specs.Paging.{Given}
 use Rattle.spe_cases_trees.proofs.tests.space.Filling.load.Goals as goal
 
 pub invariant_of-self : goal.invariant_of-self
@@ -7,6 +8,6 @@ invariant_of-self c =
     record {
       sized = c.load.ensures.size ∙ before.sized;
       counted = c.load.ensures.count ∙ before.counted;
-      fresh = λ n. ap (λ (seen : ℕ → Option (List ℕ)). seen n) c.load.ensures.seen ∙ before.fresh n;
+      fresh = λ n. ap (λ (seen : Given). seen n) c.load.ensures.seen ∙ before.fresh n;
       well = c.load.ensures.refusal ∙ before.well;
     }

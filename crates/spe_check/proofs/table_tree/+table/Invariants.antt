@@ -1,0 +1,33 @@
+use Rattle.std.proofs.Common.{◌≡◌, ◌≤◌, ◌<◌, ◌+◌, ◌*◌, ◌++◌, ℕ, List, Ok, length}
+use Rattle.spe_model.specs.Tree.{node_at}
+use Rattle.spe_model.specs.Verdict.{LeafRow}
+use Rattle.spe_model.specs.Walk.{levels_at_leaf, table_marks, walk_rows}
+use Rattle.spe_check.specs.Pages.{IsStand, behind_read}
+use Rattle.spe_check.specs.Shown.{Each, Walked}
+use Rattle.spe_check.specs.TableTree.{IsTableFanned, low_of, high_of}
+use Rattle.spe_check.proofs.table_tree.+table.Given as goal
+
+abbrev pub decreases-walk_table : goal.decreases-walk_table
+decreases-walk_table g l = 2 * l.levels + 1
+
+abbrev pub decreases-walk_table_from : goal.decreases-walk_table_from
+decreases-walk_table_from g l = 2 * l.levels
+
+abbrev pub invariant-walk_table_from-children : goal.invariant-walk_table_from-children
+invariant-walk_table_from-children g l = record {
+  some : 0 < l.levels;
+  walked : Walked g.S.Pages l.fn.space l.space l.fn.met l.met;
+  refusal : g.S.Pages.refusal l.space ≡ g.S.Pages.refusal l.fn.space;
+  buf : length l.buf ≡ g.S.Pages.size l.fn.space;
+  floor : g.V.RowVisitor.floor l.fn.visitor ≤ low_of l.fn.low → g.V.RowVisitor.floor l.visitor ≤ low_of l.above;
+  under : low_of l.fn.low ≤ high_of l.high → low_of l.above ≤ high_of l.high;
+  wanted : g.V.RowVisitor.wanted l.visitor ≡ g.V.RowVisitor.wanted l.fn.visitor;
+  fanned : Each g.S.Pages l.space (λ usable pages. (stand holder : ℕ) (later : List LeafRow) → node_at usable pages l.page ≡ Ok l.fn.node
+      → IsStand l.fn.leaf stand (levels_at_leaf usable pages l.levels l.page) → g.V.RowVisitor.floor l.fn.visitor ≤ low_of l.fn.low
+      → IsTableFanned g.V.RowVisitor usable pages l.fn.met l.met l.visitor (g.V.RowVisitor.outlook l.fn.visitor (walk_rows usable pages l.levels l.page ++ later)) later
+      (behind_read (table_marks (g.V.RowVisitor.outlook l.fn.visitor (walk_rows usable pages l.levels l.page ++ later)).marks usable pages stand l.levels (low_of l.fn.low) (high_of l.high) holder l.page))
+      stand l.levels (low_of l.above) (high_of l.high) l.page l.stand l.left l.right);
+}
+
+abbrev pub decreases-walk_table_from-children : goal.decreases-walk_table_from-children
+decreases-walk_table_from-children g l = length l.left

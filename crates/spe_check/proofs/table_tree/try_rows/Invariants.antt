@@ -1,0 +1,23 @@
+use Rattle.std.proofs.Common.{◌≡◌, ◌≤◌, ◌++◌, List, length}
+use Rattle.spe_model.specs.Verdict.{LeafRow}
+use Rattle.spe_model.specs.Walk.{leaf_marks, leaf_rows}
+use Rattle.spe_check.specs.Shown.{Each, Walked}
+use Rattle.spe_check.specs.TableTree.{IsRowed, low_of, high_of}
+use Rattle.spe_check.proofs.table_tree.try_rows.Given as goal
+
+abbrev pub invariant-rows : goal.invariant-rows
+invariant-rows g l = record {
+  walked : Walked g.S.Pages l.fn.space l.space l.fn.met l.met;
+  refusal : g.S.Pages.refusal l.space ≡ g.S.Pages.refusal l.fn.space;
+  buf : length l.buf ≡ g.S.Pages.size l.fn.space;
+  floor : g.V.RowVisitor.floor l.fn.visitor ≤ low_of l.fn.low → g.V.RowVisitor.floor l.visitor ≤ low_of l.above;
+  under : low_of l.fn.low ≤ high_of l.high → low_of l.above ≤ high_of l.high;
+  wanted : g.V.RowVisitor.wanted l.visitor ≡ g.V.RowVisitor.wanted l.fn.visitor;
+  rowed : Each g.S.Pages l.space (λ usable pages. (later : List LeafRow) → g.V.RowVisitor.floor l.fn.visitor ≤ low_of l.fn.low
+      → IsRowed g.V.RowVisitor usable pages l.fn.met l.met l.visitor (g.V.RowVisitor.outlook l.fn.visitor (leaf_rows usable pages l.page l.cells ++ later)) later
+      (leaf_marks (g.V.RowVisitor.outlook l.fn.visitor (leaf_rows usable pages l.page l.cells ++ later)).marks usable pages l.page (low_of l.fn.low) (high_of l.high) l.cells)
+      l.page (low_of l.above) (high_of l.high) l.left);
+}
+
+abbrev pub decreases-rows : goal.decreases-rows
+decreases-rows g l = length l.left

@@ -1,0 +1,264 @@
+//! The trees of the objects that the schema names.
+
+ghost use Rattle.std.specs.Prelude.{◌≡◌, ◌≤◌, IfOk, SomeIff, length};
+ghost use Rattle.spe_model.specs.Schema.{root_of};
+ghost use Rattle.spe_model.specs.Verdict.{no_marks, record_marks, tree_levels};
+ghost use Rattle.spe_model.specs.Walk.{walk_rows};
+ghost use Rattle.spe_catalog.specs.Table.{Attaches};
+ghost use Rattle.spe_check.specs.Objects.{index_tree, table_tree, OpensTable, TriesFrom, TriesTree, TriesObject, TriesObjects};
+ghost use Rattle.spe_check.specs.RecordRows.{saturated};
+ghost use Rattle.spe_check.specs.SchemaRows.{rows_in};
+ghost use Rattle.spe_check.specs.Shown.{Walked, RefusesStop, AsksWithin};
+
+use crate::index_tree::walk_index_from;
+use crate::met::Met;
+use crate::page::{is_table, read_met};
+use crate::record_rows::{NoRows, RecordRows};
+use crate::schema_rows::Placed;
+use crate::stop::Stop;
+use crate::table_tree::walk_table_from;
+use spe_catalog::{Attached, SchemaRow, table_of};
+use spe_model::PageCells;
+use spe_space::Pages;
+use std::alloc::{AllocError, Global};
+
+/// How many levels a tree may have, its root and its leaves among them.
+#[tactic(auto, unfolding(spe_model::specs::Verdict::tree_levels))]
+pub fn tree_levels() -> u32
+    ensures { result ≡ tree_levels }
+{
+    20
+}
+
+// The tables that have an index or a trigger among these rows.
+fn attached_to(alloc: Global, placed: &[Placed]) -> Result<Attached, AllocError>
+    ensures { IfOk result (Attaches (rows_in placed.now)) }
+{
+    let mut attached = Attached::none(alloc);
+    let mut left = placed;
+    while let [first, rest @ ..] = left {
+        attached.add(alloc, first.row())?;
+        left = rest;
+    }
+    Ok(attached)
+}
+
+// How many columns the open table of a row has, or `None` where it is no open table's row. Its root is
+// a page of a table.
+fn open_columns(
+    alloc: Global,
+    attached: &Attached,
+    row: &SchemaRow,
+) -> Result<Option<usize>, AllocError>
+    ensures { OpensTable attached.now row.now result }
+{
+    if !row.is_table() {
+        return Ok(None);
+    }
+    let table = table_of(alloc, attached, true, row)?;
+    let columns = table.columns.as_slice().len();
+    match table.closed {
+        Some(_) => Ok(None),
+        None => Ok(Some(columns)),
+    }
+}
+
+// The root of a row's object, or 0 where it has none. `None` where there are fewer pages.
+fn root_within(pages: u32, row: &SchemaRow) -> Option<u32>
+    ensures { SomeIff result (root_of row.now.rootpage ≤ pages) (root_of row.now.rootpage) }
+{
+    match row.root() {
+        Some(root) if root <= pages => Some(root),
+        _ => None,
+    }
+}
+
+// Tries the tree of an index from its root on.
+fn try_index<S: Pages>(
+    alloc: Global,
+    space: &mut S,
+    met: &mut Met,
+    root: u32,
+    node: &PageCells,
+    buf: &mut [u8],
+) -> Result<u64, Stop>
+    requires { length buf.old ≡ S.Pages.size space.old }
+    ensures tried { TriesFrom S.Pages space.new met.old met.new index_tree (λ _ _. 0) root node.now result }
+    ensures walked { Walked S.Pages space.old space.new met.old met.new }
+    ensures refusal { RefusesStop S.Pages space.old space.new result }
+    ensures asks { AsksWithin met.old result }
+{
+    let levels = tree_levels();
+    let mut spare = Vec::new(alloc);
+    match walk_index_from(alloc, space, met, None, levels, root, node, buf, &mut spare) {
+        Ok(_level) => Ok(0),
+        Err(stop) => Err(stop),
+    }
+}
+
+// Tries the tree of a closed table, or of another object, from its root on.
+fn try_closed<S: Pages>(
+    alloc: Global,
+    space: &mut S,
+    met: &mut Met,
+    root: u32,
+    node: &PageCells,
+    buf: &mut [u8],
+) -> Result<u64, Stop>
+    requires { length buf.old ≡ S.Pages.size space.old }
+    ensures tried { TriesFrom S.Pages space.new met.old met.new (table_tree no_marks) (λ _ _. 0) root node.now result }
+    ensures walked { Walked S.Pages space.old space.new met.old met.new }
+    ensures refusal { RefusesStop S.Pages space.old space.new result }
+    ensures asks { AsksWithin met.old result }
+{
+    let levels = tree_levels();
+    let mut payload = Vec::new(alloc);
+    match walk_table_from(
+        alloc,
+        space,
+        met,
+        &mut NoRows,
+        None,
+        levels,
+        None,
+        None,
+        root,
+        node,
+        buf,
+        &mut payload,
+    ) {
+        Ok(_level) => Ok(0),
+        Err(stop) => Err(stop),
+    }
+}
+
+// Tries the tree of an open table with so many columns from its root on, and counts its rows.
+fn try_open<S: Pages>(
+    alloc: Global,
+    space: &mut S,
+    met: &mut Met,
+    columns: usize,
+    root: u32,
+    node: &PageCells,
+    buf: &mut [u8],
+) -> Result<u64, Stop>
+    requires { length buf.old ≡ S.Pages.size space.old }
+    ensures tried { TriesFrom S.Pages space.new met.old met.new (table_tree (record_marks columns)) (λ usable pages. saturated (length (walk_rows usable pages tree_levels root))) root node.now result }
+    ensures walked { Walked S.Pages space.old space.new met.old met.new }
+    ensures refusal { RefusesStop S.Pages space.old space.new result }
+    ensures asks { AsksWithin met.old result }
+{
+    let levels = tree_levels();
+    let mut rows = RecordRows::new(alloc, columns);
+    let mut payload = Vec::new(alloc);
+    match walk_table_from(
+        alloc,
+        space,
+        met,
+        &mut rows,
+        None,
+        levels,
+        None,
+        None,
+        root,
+        node,
+        buf,
+        &mut payload,
+    ) {
+        Ok(_level) => Ok(rows.count()),
+        Err(stop) => Err(stop),
+    }
+}
+
+// Tries the tree of a row's object from its root on, which was read and holds `node`, and answers how
+// many rows it has, where it is an open table.
+fn try_tree<S: Pages>(
+    alloc: Global,
+    space: &mut S,
+    met: &mut Met,
+    attached: &Attached,
+    row: &SchemaRow,
+    root: u32,
+    node: &PageCells,
+    buf: &mut [u8],
+) -> Result<u64, Stop>
+    requires { length buf.old ≡ S.Pages.size space.old }
+    ensures tried { TriesTree S.Pages space.new met.old met.new attached.now root row.now node.now result }
+    ensures walked { Walked S.Pages space.old space.new met.old met.new }
+    ensures refusal { RefusesStop S.Pages space.old space.new result }
+    ensures asks { AsksWithin met.old result }
+{
+    if !is_table(node.kind) {
+        return try_index(alloc, space, met, root, node, buf);
+    }
+    match open_columns(alloc, attached, row)? {
+        Some(columns) => try_open(alloc, space, met, columns, root, node, buf),
+        None => try_closed(alloc, space, met, root, node, buf),
+    }
+}
+
+// Tries the tree of a row's object, where the row names a root, and answers how many rows it has,
+// where it is an open table. Its root is met under the row's leaf.
+fn try_object<S: Pages>(
+    alloc: Global,
+    space: &mut S,
+    met: &mut Met,
+    attached: &Attached,
+    placed: &Placed,
+    buf: &mut [u8],
+) -> Result<u64, Stop>
+    requires { length buf.old ≡ S.Pages.size space.old }
+    ensures tried { TriesObject S.Pages space.new met.old met.new attached.now placed.now result }
+    ensures walked { Walked S.Pages space.old space.new met.old met.new }
+    ensures refusal { RefusesStop S.Pages space.old space.new result }
+    ensures asks { AsksWithin met.old result }
+{
+    let row = placed.row();
+    let leaf = placed.leaf();
+    let Some(root) = root_within(met.pages, row) else {
+        return Err(Stop::Broken {
+            page: leaf,
+            rule: 1,
+        });
+    };
+    if root == 0 {
+        return Ok(0);
+    }
+    let node = match read_met(alloc, space, met, leaf, root, buf) {
+        Ok(node) => node,
+        Err(stop) => return Err(stop),
+    };
+    try_tree(alloc, space, met, attached, row, root, &node, buf)
+}
+
+/// Tries the trees of the objects that these rows of the schema name, in their order, and answers how
+/// many rows the open tables have, or the greatest number of 64 bits where they have more.
+///
+/// A row without a root, or with one that is negative, has no tree. The tree of an open table is one of
+/// a table; of any other object the root's own kind says what it is. `buf` is one page long. Each page
+/// is got once.
+pub fn try_objects<S: Pages>(
+    alloc: Global,
+    space: &mut S,
+    met: &mut Met,
+    placed: &[Placed],
+    buf: &mut [u8],
+) -> Result<u64, Stop>
+    requires { length buf.old ≡ S.Pages.size space.old }
+    ensures tried { TriesObjects S.Pages space.new met.old met.new placed.now result }
+    ensures walked { Walked S.Pages space.old space.new met.old met.new }
+    ensures refusal { RefusesStop S.Pages space.old space.new result }
+    ensures asks { AsksWithin met.old result }
+{
+    let attached = attached_to(alloc, placed)?;
+    let mut rows: u64 = 0;
+    let mut left = placed;
+    'objects: while let [first, rest @ ..] = left {
+        match try_object(alloc, space, met, &attached, first, buf) {
+            Ok(more) => rows = rows.saturating_add(more),
+            Err(stop) => return Err(stop),
+        }
+        left = rest;
+    }
+    Ok(rows)
+}

@@ -1,0 +1,116 @@
+//! The rows of a table's tree, whose records are tried, or of which nothing is.
+
+ghost use Rattle.std.specs.Prelude.{◌≡◌, true, false, refl, IfOk, IfErr, Ok, length, nat_le};
+ghost use Rattle.std.proofs.lemmas.Bool.{true≢false};
+ghost use Rattle.spe_model.specs.Record.{record_of};
+ghost use Rattle.spe_check.specs.RecordRows.{no_outlook, record_outlook, TriesRecord};
+ghost use Rattle.spe_check.specs.Visitor.{IsOwn};
+
+use crate::rule::try_rule;
+use crate::stop::Stop;
+use crate::visitor::RowVisitor;
+use spe_model::Values;
+use spe_record::{RecordFault, decode};
+use spe_space::SpaceFault;
+use std::alloc::Global;
+
+fn has_at_most(columns: usize, values: &Values) -> bool
+    ensures { result ≡ nat_le (length values.now) columns }
+{
+    values.as_slice().len() <= columns
+}
+
+/// The values of the record of a row, which stands on the page `leaf`. Broken is rule 8, where the
+/// payload is no record or has more values than the table has columns.
+pub fn try_record(alloc: Global, leaf: u32, columns: usize, payload: &[u8]) -> Result<Values, Stop>
+    ensures tried { TriesRecord leaf columns payload.now result }
+    ensures values { IfOk result (λ values. record_of payload.now ≡ Ok values) }
+    ensures own { IfErr result IsOwn }
+{
+    match decode(alloc, payload) {
+        Ok(values) => match try_rule(has_at_most(columns, &values), leaf, 8) {
+            Ok(()) => Ok(values),
+            Err(stop) => Err(stop),
+        },
+        Err(RecordFault::Memory) => Err(Stop::Space(SpaceFault::Memory)),
+        Err(_) => Err(Stop::Broken {
+            page: leaf,
+            rule: 8,
+        }),
+    }
+}
+
+/// Tries the records of a table with so many columns, and counts its rows.
+#[derive(Debug, Drop)]
+pub struct RecordRows {
+    alloc: Global,
+    columns: usize,
+    count: u64,
+}
+
+impl RecordRows {
+    /// No row yet.
+    pub fn new(alloc: Global, columns: usize) -> RecordRows
+        ensures columns { result.columns ≡ columns }
+        ensures count { result.count ≡ 0 }
+    {
+        RecordRows {
+            alloc,
+            columns,
+            count: 0,
+        }
+    }
+
+    /// How many rows there were, or the greatest number of 64 bits where there were more.
+    pub fn count(&self) -> u64
+        ensures { result ≡ self.now.count }
+    {
+        self.count
+    }
+}
+
+impl RowVisitor for RecordRows {
+    ghost outlook = { λ s rows. record_outlook s.columns s.count rows };
+
+    ghost floor = { λ _. 0 };
+
+    ghost wanted = { λ _. true };
+
+    ghost idle = { λ _ none. absurd (true≢false none) };
+
+    fn wants(&self) -> bool {
+        true
+    }
+
+    fn visit(&mut self, leaf: u32, _rowid: i64, payload: &[u8]) -> Result<(), Stop> {
+        match try_record(self.alloc, leaf, self.columns, payload) {
+            Ok(_values) => {
+                self.count = self.count.saturating_add(1);
+                Ok(())
+            }
+            Err(stop) => Err(stop),
+        }
+    }
+}
+
+/// Wants no rows.
+#[derive(Clone, Copy, Debug)]
+pub struct NoRows;
+
+impl RowVisitor for NoRows {
+    ghost outlook = { λ _ rows. no_outlook rows };
+
+    ghost floor = { λ _. 0 };
+
+    ghost wanted = { λ _. false };
+
+    ghost idle = { λ _ _ _ _. (refl, refl) };
+
+    fn wants(&self) -> bool {
+        false
+    }
+
+    fn visit(&mut self, _leaf: u32, _rowid: i64, _payload: &[u8]) -> Result<(), Stop> {
+        Ok(())
+    }
+}

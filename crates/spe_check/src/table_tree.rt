@@ -1,0 +1,292 @@
+//! Trees of tables.
+
+ghost use Rattle.std.specs.Prelude.{◌≡◌, ◌≤◌, ◌<◌, ◌+◌, ℕ, Bool, true, nat_le, nat_lt, [], ◌∷◌, IfOk, IfErr, OnOk, length};
+ghost use Rattle.spe_model.specs.Tree.{rank};
+ghost use Rattle.spe_model.specs.Walk.{Mark, Keeps, is_within_bounds};
+ghost use Rattle.spe_check.specs.Chains.{kept_of};
+ghost use Rattle.spe_check.specs.Shown.{Walked, RefusesStop, AsksWithin};
+ghost use Rattle.spe_check.specs.TableTree.{low_of, high_of, Rises, VisitsRow, TakesPayload, TriesRow, TriesRows, TriesTable, TriesTableFrom};
+ghost use Rattle.spe_check.specs.Tries.{IsBroken, Tries};
+ghost use Rattle.spe_check.specs.Visitor.{IsOwn};
+
+use crate::chain::try_chain;
+use crate::index_tree::{level_of, rest_in};
+use crate::met::Met;
+use crate::page::{is_leaf, read_met, try_place};
+use crate::rule::try_rule;
+use crate::stop::Stop;
+use crate::visitor::RowVisitor;
+use spe_model::{Cell, PageCells};
+use spe_space::Pages;
+use std::alloc::{AllocError, Global};
+
+// Whether a key is above the one to its left, where there is one.
+fn is_above(low: Option<i64>, key: i64) -> bool
+    ensures { result ≡ nat_le (low_of low) (rank key) }
+{
+    match low {
+        Some(left) => left < key,
+        None => true,
+    }
+}
+
+// Whether a key is at most the one to its right, where there is one.
+fn is_up_to(high: Option<i64>, key: i64) -> bool
+    ensures { result ≡ nat_lt (rank key) (high_of high) }
+{
+    match high {
+        Some(right) => key <= right,
+        None => true,
+    }
+}
+
+fn is_within(low: Option<i64>, high: Option<i64>, cell: &Cell) -> bool
+    ensures { result ≡ is_within_bounds (low_of low) (high_of high) cell.now }
+{
+    is_above(low, cell.key) && is_up_to(high, cell.key)
+}
+
+// Tries whether the key of a cell lies between two keys: above one, and at most the other.
+fn try_bound(low: Option<i64>, high: Option<i64>, page: u32, cell: &Cell) -> Result<(), Stop>
+    ensures tried { (count : ℕ) (met : ℕ → Bool) → Tries count met met (Keeps page 6 (is_within_bounds (low_of low) (high_of high) cell.now) ∷ []) result }
+    ensures above { OnOk result (low_of low ≤ rank cell.now.key) }
+    ensures below { OnOk result (rank cell.now.key < high_of high) }
+    ensures broken { IfErr result IsBroken }
+{
+    try_rule(is_within(low, high, cell), page, 6)
+}
+
+// Begins a payload anew with the bytes in its page, where they are wanted.
+fn begin(wanted: bool, local: &[u8], payload: &mut Vec<u8>) -> Result<(), AllocError>
+    ensures { OnOk result (payload.new.items ≡ kept_of wanted [] local.now) }
+{
+    payload.clear();
+    if wanted {
+        payload.extend_from_slice(local)?;
+    }
+    Ok(())
+}
+
+// Tries the chain of a cell, and takes the cell's payload where it is wanted.
+fn take_payload<S: Pages>(
+    space: &mut S,
+    met: &mut Met,
+    page: u32,
+    cell: &Cell,
+    wanted: bool,
+    buf: &mut [u8],
+    payload: &mut Vec<u8>,
+) -> Result<(), Stop>
+    requires { length buf.old ≡ S.Pages.size space.old }
+    ensures tried { TakesPayload S.Pages space.new met.old met.new page cell.now wanted payload.new.items result }
+    ensures walked { Walked S.Pages space.old space.new met.old met.new }
+    ensures refusal { RefusesStop S.Pages space.old space.new result }
+    ensures asks { AsksWithin met.old result }
+{
+    begin(wanted, cell.local.as_slice(), payload)?;
+    try_chain(
+        space,
+        met,
+        page,
+        cell.chain,
+        rest_in(cell),
+        wanted,
+        buf,
+        payload,
+    )
+}
+
+// Has a row visited where the visitor wants it.
+fn visit_row<V: RowVisitor>(
+    visitor: &mut V,
+    page: u32,
+    cell: &Cell,
+    payload: &[u8],
+) -> Result<(), Stop>
+    ensures tried { VisitsRow V.RowVisitor visitor.old visitor.new page cell.now.key payload.now result }
+    ensures above { Rises V.RowVisitor visitor.old visitor.new (rank cell.now.key) (rank cell.now.key + 1) result }
+    ensures own { IfErr result IsOwn }
+    ensures wanted { V.RowVisitor.wanted visitor.new ≡ V.RowVisitor.wanted visitor.old }
+{
+    if visitor.wants() {
+        return visitor.visit(page, cell.key, payload);
+    }
+    Ok(())
+}
+
+// Tries a row of a leaf: its bound, its chain, and what the visitor tries of it.
+fn try_row<S: Pages, V: RowVisitor>(
+    space: &mut S,
+    met: &mut Met,
+    visitor: &mut V,
+    low: Option<i64>,
+    high: Option<i64>,
+    page: u32,
+    cell: &Cell,
+    buf: &mut [u8],
+    payload: &mut Vec<u8>,
+) -> Result<(), Stop>
+    requires { length buf.old ≡ S.Pages.size space.old }
+    ensures tried { TriesRow S.Pages V.RowVisitor space.new met.old met.new visitor.old visitor.new page (low_of low) (high_of high) cell.now result }
+    ensures above { OnOk result (low_of low ≤ rank cell.now.key) }
+    ensures below { OnOk result (rank cell.now.key < high_of high) }
+    ensures rises { Rises V.RowVisitor visitor.old visitor.new (low_of low) (rank cell.now.key + 1) result }
+    ensures wanted { V.RowVisitor.wanted visitor.new ≡ V.RowVisitor.wanted visitor.old }
+    ensures walked { Walked S.Pages space.old space.new met.old met.new }
+    ensures refusal { RefusesStop S.Pages space.old space.new result }
+    ensures asks { AsksWithin met.old result }
+{
+    match try_bound(low, high, page, cell) {
+        Ok(()) => (),
+        Err(stop) => return Err(stop),
+    }
+    let wanted = visitor.wants();
+    match take_payload(space, met, page, cell, wanted, buf, payload) {
+        Ok(()) => (),
+        Err(stop) => return Err(stop),
+    }
+    visit_row(visitor, page, cell, payload.as_slice())
+}
+
+fn key_of(cell: &Cell) -> Option<i64>
+    ensures low { low_of result ≡ rank cell.now.key + 1 }
+    ensures high { high_of result ≡ rank cell.now.key + 1 }
+{
+    Some(cell.key)
+}
+
+// Tries the rows of a leaf, at which so many levels are left.
+fn try_rows<S: Pages, V: RowVisitor>(
+    space: &mut S,
+    met: &mut Met,
+    visitor: &mut V,
+    levels: u32,
+    low: Option<i64>,
+    high: Option<i64>,
+    page: u32,
+    cells: &[Cell],
+    buf: &mut [u8],
+    payload: &mut Vec<u8>,
+) -> Result<u32, Stop>
+    requires { length buf.old ≡ S.Pages.size space.old }
+    ensures tried { TriesRows S.Pages V.RowVisitor space.new met.old met.new visitor.old visitor.new page (low_of low) (high_of high) cells.now result }
+    ensures level { IfOk result (λ level. level ≡ levels) }
+    ensures rises { Rises V.RowVisitor visitor.old visitor.new (low_of low) (high_of high) result }
+    ensures wanted { V.RowVisitor.wanted visitor.new ≡ V.RowVisitor.wanted visitor.old }
+    ensures walked { Walked S.Pages space.old space.new met.old met.new }
+    ensures refusal { RefusesStop S.Pages space.old space.new result }
+    ensures asks { AsksWithin met.old result }
+{
+    let mut above = low;
+    let mut left = cells;
+    'rows: while let [cell, rest @ ..] = left {
+        match try_row(space, met, visitor, above, high, page, cell, buf, payload) {
+            Ok(()) => (),
+            Err(stop) => return Err(stop),
+        }
+        above = key_of(cell);
+        left = rest;
+    }
+    Ok(levels)
+}
+
+/// Tries the tree of a table with its rows from the page `page` on, whose number stands on the page
+/// `holder`, and answers how many levels were left at its leaves.
+///
+/// So many levels are left, the page among them; `leaf` says how many were left at the first leaf of
+/// the whole tree, where one was met. All keys are to be above `low` and at most `high`, the parents'
+/// nearest keys on either side. `buf` is one page long, and `payload` takes the payload
+/// of one row after the other. Each page is got once, and the visitor gets the rows in their order.
+#[cycle(table)]
+pub fn walk_table<S: Pages, V: RowVisitor>(
+    alloc: Global,
+    space: &mut S,
+    met: &mut Met,
+    visitor: &mut V,
+    leaf: Option<u32>,
+    levels: u32,
+    low: Option<i64>,
+    high: Option<i64>,
+    holder: u32,
+    page: u32,
+    buf: &mut [u8],
+    payload: &mut Vec<u8>,
+) -> Result<u32, Stop>
+    requires { length buf.old ≡ S.Pages.size space.old }
+    ensures tried { TriesTable S.Pages V.RowVisitor space.new met.old met.new visitor.old visitor.new leaf levels (low_of low) (high_of high) holder page result }
+    ensures rises { Rises V.RowVisitor visitor.old visitor.new (low_of low) (high_of high) result }
+    ensures wanted { V.RowVisitor.wanted visitor.new ≡ V.RowVisitor.wanted visitor.old }
+    ensures walked { Walked S.Pages space.old space.new met.old met.new }
+    ensures refusal { RefusesStop S.Pages space.old space.new result }
+    ensures asks { AsksWithin met.old result }
+{
+    let node = match read_met(alloc, space, met, holder, page, buf) {
+        Ok(node) => node,
+        Err(stop) => return Err(stop),
+    };
+    walk_table_from(
+        alloc, space, met, visitor, leaf, levels, low, high, page, &node, buf, payload,
+    )
+}
+
+/// Goes on with the tree of a table from the page `page` on, which was met and read already and holds
+/// `node`. The page is not got again; the rest is as for `walk_table`.
+#[cycle(table)]
+pub fn walk_table_from<S: Pages, V: RowVisitor>(
+    alloc: Global,
+    space: &mut S,
+    met: &mut Met,
+    visitor: &mut V,
+    leaf: Option<u32>,
+    levels: u32,
+    low: Option<i64>,
+    high: Option<i64>,
+    page: u32,
+    node: &PageCells,
+    buf: &mut [u8],
+    payload: &mut Vec<u8>,
+) -> Result<u32, Stop>
+    requires { length buf.old ≡ S.Pages.size space.old }
+    ensures tried { TriesTableFrom S.Pages V.RowVisitor space.new met.old met.new visitor.old visitor.new leaf levels (low_of low) (high_of high) page node.now result }
+    ensures rises { Rises V.RowVisitor visitor.old visitor.new (low_of low) (high_of high) result }
+    ensures wanted { V.RowVisitor.wanted visitor.new ≡ V.RowVisitor.wanted visitor.old }
+    ensures walked { Walked S.Pages space.old space.new met.old met.new }
+    ensures refusal { RefusesStop S.Pages space.old space.new result }
+    ensures asks { AsksWithin met.old result }
+{
+    match try_place(true, leaf, levels, page, node.kind) {
+        Ok(()) => (),
+        Err(stop) => return Err(stop),
+    }
+    if is_leaf(node.kind) {
+        let level = level_of(leaf, levels);
+        let cells = node.cells.as_slice();
+        return try_rows(
+            space, met, visitor, level, low, high, page, cells, buf, payload,
+        );
+    }
+    let fewer = levels - 1;
+    let right = node.right;
+    let mut stand = leaf;
+    let mut above = low;
+    let mut left = node.cells.as_slice();
+    'children: while let [cell, rest @ ..] = left {
+        let key = key_of(cell);
+        let child = cell.left;
+        match walk_table(
+            alloc, space, met, visitor, stand, fewer, above, key, page, child, buf, payload,
+        ) {
+            Ok(level) => stand = Some(level),
+            Err(stop) => return Err(stop),
+        }
+        match try_bound(above, high, page, cell) {
+            Ok(()) => (),
+            Err(stop) => return Err(stop),
+        }
+        above = key;
+        left = rest;
+    }
+    walk_table(
+        alloc, space, met, visitor, stand, fewer, above, high, page, right, buf, payload,
+    )
+}

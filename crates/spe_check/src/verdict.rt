@@ -1,0 +1,148 @@
+//! The verdict over the pages of a database.
+
+ghost use Rattle.std.specs.Prelude.{IfErr, ◌≡◌, ◌≤◌, ◌+◌, ◌*◌, ◌^◌, None, length};
+ghost use Rattle.spe_model.specs.Served.{usable_in};
+ghost use Rattle.spe_space.specs.Calls.{Reads};
+ghost use Rattle.spe_space.specs.Outcome.{IsInside, OnPageOut, refusal_after};
+ghost use Rattle.spe_check.specs.Check.{GivesVerdict};
+ghost use Rattle.spe_check.specs.Shown.{Walked, RefusesStop, AsksWithin};
+ghost use Rattle.spe_check.specs.Verdicts.{narrowed, tables_among, with_row, TriesAll, TriesSchema};
+
+use crate::free_lists::try_free;
+use crate::met::Met;
+use crate::objects::{tree_levels, try_objects};
+use crate::schema_rows::{Placed, SchemaRows};
+use crate::stop::Stop;
+use crate::table_tree::walk_table;
+use spe_model::{Header, Verdict};
+use spe_space::{Pages, SpaceFault};
+use spe_verdict::{bounds_law, counts_law};
+use std::alloc::Global;
+
+// A number in 32 bits, or the greatest of these.
+fn narrowed(number: u64) -> u32
+    ensures { result ≡ narrowed number }
+{
+    u32::try_from(number).unwrap_or(u32::MAX)
+}
+
+// One table more, where the row is a table's.
+fn with_row(tables: u32, placed: &Placed) -> u32
+    ensures { result ≡ with_row tables placed.now }
+{
+    if placed.row().is_table() {
+        tables.saturating_add(1)
+    } else {
+        tables
+    }
+}
+
+// How many rows of the schema are those of tables, or the greatest number of 32 bits.
+fn count_tables(placed: &[Placed]) -> u32
+    ensures { result ≡ narrowed (tables_among placed.now) }
+{
+    let mut tables = 0;
+    let mut left = placed;
+    'rows: while let [first, rest @ ..] = left {
+        tables = with_row(tables, first);
+        left = rest;
+    }
+    tables
+}
+
+// Tries the tree of the schema, and answers its rows with their leaves.
+fn try_schema<S: Pages>(
+    alloc: Global,
+    space: &mut S,
+    met: &mut Met,
+    buf: &mut [u8],
+) -> Result<Vec<Placed>, Stop>
+    requires { length buf.old ≡ S.Pages.size space.old }
+    ensures tried { TriesSchema S.Pages space.new met.old met.new result }
+    ensures walked { Walked S.Pages space.old space.new met.old met.new }
+    ensures refusal { RefusesStop S.Pages space.old space.new result }
+    ensures asks { AsksWithin met.old result }
+{
+    let levels = tree_levels();
+    let mut rows = SchemaRows::new(alloc);
+    let mut payload = Vec::new(alloc);
+    match walk_table(
+        alloc,
+        space,
+        met,
+        &mut rows,
+        None,
+        levels,
+        None,
+        None,
+        1,
+        1,
+        buf,
+        &mut payload,
+    ) {
+        Ok(_level) => Ok(rows.into_placed()),
+        Err(stop) => Err(stop),
+    }
+}
+
+// Tries all that is to be tried of pages that begin with this header, and answers what there is.
+fn try_all<S: Pages>(
+    alloc: Global,
+    space: &mut S,
+    met: &mut Met,
+    header: &Header,
+    buf: &mut [u8],
+) -> Result<Verdict, Stop>
+    requires { length buf.old ≡ S.Pages.size space.old }
+    ensures tried { TriesAll S.Pages space.new met.old met.new header.now result }
+    ensures walked { Walked S.Pages space.old space.new met.old met.new }
+    ensures refusal { RefusesStop S.Pages space.old space.new result }
+    ensures asks { AsksWithin met.old result }
+{
+    let placed = match try_schema(alloc, space, met, buf) {
+        Ok(placed) => placed,
+        Err(stop) => return Err(stop),
+    };
+    let rows = match try_objects(alloc, space, met, placed.as_slice(), buf) {
+        Ok(rows) => rows,
+        Err(stop) => return Err(stop),
+    };
+    match try_free(space, met, header, buf) {
+        Ok(free) => Ok(Verdict::Stands {
+            tables: count_tables(placed.as_slice()),
+            rows,
+            free: narrowed(free),
+        }),
+        Err(stop) => Err(stop),
+    }
+}
+
+/// Whether so many pages are sound, the first of which begins with this header.
+///
+/// The walk goes over the tree of the schema, the trees of its rows and the free lists, and breaks off at the first
+/// rule that is broken. Each page is got once, and none is asked for past the last of so many.
+pub fn check<S: Pages>(
+    alloc: Global,
+    space: &mut S,
+    header: &Header,
+    pages: u32,
+) -> Result<Verdict, SpaceFault>
+    requires refusal { S.Pages.refusal space.old ≡ None }
+    requires size { S.Pages.size space.old ≡ header.now.page_size }
+    requires used { S.Pages.used space.old ≡ usable_in header.now }
+    requires few { pages * header.now.page_size ≤ 2 ^ 30 }
+    ensures verdict { GivesVerdict S.Pages space.old space.new header.now pages result }
+    ensures kept { Reads S.Pages space.old space.new }
+    ensures refusal { S.Pages.refusal space.new ≡ refusal_after result (S.Pages.refusal space.old) }
+    ensures asks { IfErr result (OnPageOut (IsInside pages)) }
+{
+    counts_law();
+    bounds_law();
+    let mut met = Met::new(alloc, pages)?;
+    let mut buf = vec![in alloc; 0u8; space.page_size() as usize]?;
+    match try_all(alloc, space, &mut met, header, buf.as_mut_slice()) {
+        Ok(verdict) => Ok(verdict),
+        Err(Stop::Broken { page, rule }) => Ok(Verdict::Broken { page, rule }),
+        Err(Stop::Space(fault)) => Err(fault),
+    }
+}
