@@ -1,4 +1,4 @@
-//! Tests of what statements mean, on databases over maps.
+//! Tests of what statements mean, on databases over maps and over pages.
 #![tactic(auto)]
 
 #[cfg(test)]

@@ -1,6 +1,9 @@
 mod build;
+mod files;
 mod order;
+mod reads;
 mod refusals;
 mod replies;
 mod run;
+mod space;
 mod steps;

@@ -6,3 +6,4 @@ mod TableLemmas
 mod ReadsLemmas
 mod AddsLemmas
 mod MissesLemmas
+mod JustifyingLemmas

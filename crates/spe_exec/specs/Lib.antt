@@ -4,3 +4,4 @@ pub mod Rows
 pub mod Run
 pub mod Adds
 pub mod Misses
+pub mod Justifying

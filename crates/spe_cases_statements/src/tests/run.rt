@@ -7,12 +7,16 @@ use spe_slow::SlowDb;
 use std::alloc::{AllocError, Global};
 use std::process::Abort;
 
+fn are_zeros(bytes: &[u8], count: usize) -> bool {
+    bytes.len() == count && bytes.iter().all(|byte| *byte == 0)
+}
+
 fn is_value(value: &Value, field: &Field) -> bool {
     match (value, field) {
         (Value::Null, Field::Null) => true,
         (Value::Int(a), Field::Int(b)) => a == b,
         (Value::Text(text), Field::Text(wanted)) => text.as_str() == *wanted,
-        (Value::Blob(bytes), Field::Zeros(count)) => bytes.as_slice().len() == *count,
+        (Value::Blob(bytes), Field::Zeros(count)) => are_zeros(bytes.as_slice(), *count),
         (Value::Real8(a), Field::Real8(b)) => a == b,
         _ => false,
     }
@@ -35,7 +39,8 @@ fn are_rows(rows: &[Values], wanted: &[&[Field]]) -> bool {
             .all(|(row, fields)| is_row(row, fields))
 }
 
-fn is_reply(reply: &Reply, answer: &Answer) -> bool {
+/// Whether a reply is this one.
+pub fn is_reply(reply: &Reply, answer: &Answer) -> bool {
     match (reply, answer) {
         (Reply::Rows(rows), Answer::Rows(wanted)) => are_rows(rows.as_slice(), wanted),
         (Reply::Count(a), Answer::Counted(b)) => a == b,
