@@ -1,4 +1,4 @@
-//! Tests of the table of lock words: worked rows, a table of the largest size, and threads that race.
+//! Tests of the table of lock words: worked words, a table of the largest size, and threads that race.
 #![tactic(auto)]
 
 #[cfg(test)]

@@ -1,4 +1,4 @@
-//! Tests of texts that are read: statements.
+//! Tests of texts that are read: tokens, statements and definitions of tables.
 #![tactic(auto)]
 
 #[cfg(test)]

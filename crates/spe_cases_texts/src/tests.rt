@@ -1,2 +1,3 @@
 mod definitions;
 mod statements;
+mod tokens;

@@ -1,17 +1,18 @@
 -- What a stop leaves of an answer.
-use Rattle.std.proofs.Common.{◌≡◌, ◌≢◌, ℕ, zero, suc, ◌+◌, ◌<◌, List, [], ◌∷◌, ◌++◌, length, take, refl, arith, sym, ap, subst, ◌∙◌, Bool, true, false, Option, Some, None, Result, Ok, Err, ⊎_elim}
-use Rattle.std.specs.Prelude.{◌⊎◌, is_some, slice_get, slice_set, unwrap_or}
+use Rattle.std.proofs.Common.{◌≡◌, ◌≢◌, ℕ, zero, suc, ◌+◌, List, [], ◌∷◌, refl, arith, sym, ap, subst, ◌∙◌, Bool, true, false, Option, Some, None, Result, Ok, Err, ⊎_elim}
+use Rattle.std.specs.Prelude.{is_some, slice_get, slice_set, unwrap_or}
 use Rattle.spe_model.specs.declared.file.FileNo.{FileNo}
 use Rattle.spe_model.specs.declared.file.FileNo.TheVariants.{Database, Journal}
 use Rattle.spe_model.specs.declared.recovery.RecoverFault.{RecoverFault}
-use Rattle.spe_model.specs.Content.{Content, bytes_of, file_of, flatten, place_of, with_file}
+use Rattle.spe_model.specs.Content.{Content, bytes_of, file_of, flatten, with_file}
 use Rattle.spe_model.specs.Covered.{Covered, IsCovered}
 use Rattle.spe_model.specs.Recovery.{recovered}
 use Rattle.spe_model.specs.Settled.{LeavesPages}
 use Rattle.spe_model.specs.Trace.{Operation, History, IsCut, IsTorn, after, made_by, present}
 use Rattle.spe_model.specs.Trace.Operation.{Write, Cut}
 use Rattle.spe_serve.specs.Ending.{AnswersStay, Stays}
-use Rattle.spe_serve.specs.Reply.{reply_of_file, reply_of_recovered, rows_reply}
+use Rattle.spe_serve.specs.declared.reply.Reply.{Reply}
+use Rattle.spe_serve.specs.Answer.{IsOfFile, IsOfRecovery}
 use Rattle.spe_words.specs.declared.command.Command.{Command}
 use Rattle.spe_words.specs.declared.command.Command.TheVariants as commands
 
@@ -81,17 +82,17 @@ cut_absent (o ∷ os) (c ∷ cs) content covered is absent = ⊎_elim
     (λ (torn : IsTorn o c × (cs ≡ [])). rw torn.1 (torn_absent o c content covered.0 torn.0 absent))
     is
 
-answer_stays : (content now : Content) (name : List ℕ) → recovered now ≡ recovered content
+answer_stays : (c : Command) (content now : Content) (reply : Reply) → recovered now ≡ recovered content
     → (is_some (file_of content Database) ≡ true → is_some (file_of now Database) ≡ true)
     → (file_of content Database ≡ None → file_of now Database ≡ None)
-    → rows_reply now name ≡ rows_reply content name
-answer_stays content now name same there absent = by_files (file_of content Database) (file_of now Database) there absent
+    → IsOfFile c content (file_of content Database) reply → IsOfFile c now (file_of now Database) reply
+answer_stays c content now reply same there absent is = by_files (file_of content Database) (file_of now Database) there absent is
   where
-    by_files : (old new : Option (List ℕ)) → (is_some old ≡ true → is_some new ≡ true) → (old ≡ None → new ≡ None) → reply_of_file now name new ≡ reply_of_file content name old
-    by_files None None there absent = refl
-    by_files None (Some file) there absent = absurd (let none = absent refl in cc)
-    by_files (Some file) None there absent = absurd (let some = there refl in cc)
-    by_files (Some file) (Some other) there absent = ap (reply_of_recovered name) same
+    by_files : (old new : Option (List ℕ)) → (is_some old ≡ true → is_some new ≡ true) → (old ≡ None → new ≡ None) → IsOfFile c content old reply → IsOfFile c now new reply
+    by_files None None there absent is = is
+    by_files None (Some file) there absent is = absurd (let none = absent refl in cc)
+    by_files (Some file) None there absent is = absurd (let some = there refl in cc)
+    by_files (Some file) (Some other) there absent is = subst (λ (r : Result (List (List ℕ)) RecoverFault). IsOfRecovery c r reply) (sym same) is
 
 pub answers_stay : (words : List (List ℕ)) (old new : Option History) → LeavesPages old new → AnswersStay words old new
 answers_stay words None new leaves = tt
@@ -101,12 +102,16 @@ answers_stay words (Some h) new leaves = record {
   stays = λ c asked. command_stays c;
 }
   where
-    command_stays : (c : Command) → Stays c (present h) leaves.made
-    command_stays (commands.Rows db table) = λ cut is.
-        answer_stays (present h) (after (present h) cut) table (leaves.stops cut is) (after_there cut (present h))
+    file_stays : (c : Command) (cut : List Operation) → IsCut leaves.made cut → (reply : Reply)
+        → IsOfFile c (present h) (file_of (present h) Database) reply → IsOfFile c (after (present h) cut) (file_of (after (present h) cut) Database) reply
+    file_stays c cut is reply =
+        answer_stays c (present h) (after (present h) cut) reply (leaves.stops cut is) (after_there cut (present h))
         (cut_absent leaves.made cut (present h) leaves.covered is)
-    command_stays (commands.Check db) = λ cut is. refl
-    command_stays (commands.Prepare db lists) = λ cut is. refl
-    command_stays (commands.Release db) = λ cut is. refl
-    command_stays (commands.Run db scripts workers retries slots) = λ cut is. refl
-    command_stays (commands.Work db seed count) = λ cut is. refl
+
+    command_stays : (c : Command) → Stays c (present h) leaves.made
+    command_stays (commands.Rows db table) = file_stays (commands.Rows db table)
+    command_stays (commands.Check db) = file_stays (commands.Check db)
+    command_stays (commands.Prepare db lists) = λ cut is reply same. same
+    command_stays (commands.Release db) = λ cut is reply same. same
+    command_stays (commands.Run db scripts workers retries slots) = λ cut is reply same. same
+    command_stays (commands.Work db seed count) = λ cut is reply same. same

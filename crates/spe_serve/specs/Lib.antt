@@ -1,7 +1,6 @@
-pub mod Miss
-pub mod Definition
-pub mod Small
 pub mod Reply
+pub mod Answer
+pub mod Row
+pub mod Space
 pub mod Stop
-pub mod Kept
 pub mod Ending

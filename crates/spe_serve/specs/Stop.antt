@@ -1,49 +1,33 @@
--- Answers that come from a disk.
-use Rattle.std.specs.Prelude.{◌≡◌, ℕ, ◌≤◌, ◌⊎◌, Option, Some, None, Result, Ok, Err, IfErr}
-use Rattle.spe_model.specs.Content.{Content}
-use Rattle.spe_model.specs.Trace.{History}
+-- Why there is no answer from a disk.
+use Rattle.std.specs.Prelude.{ℕ, ◌⊎◌, Result, Ok, Err}
 use Rattle.spe_model.specs.Faults.{Rose}
-use Rattle.spe_recover.specs.Told.{WhereTold}
-use Rattle.spe_serve.specs.declared.miss.Miss.{Miss}
-use Rattle.spe_serve.specs.declared.miss.Miss.TheVariants as misses
+use Rattle.spe_space.specs.declared.fault.SpaceFault.{SpaceFault}
+use Rattle.spe_space.specs.declared.fault.SpaceFault.TheVariants as spaces
+use Rattle.spe_space.specs.declared.fault.TreeFault.{TreeFault}
+use Rattle.spe_space.specs.declared.fault.TreeFault.TheVariants as trees
+use Rattle.spe_serve.specs.declared.reply.Reply.{Reply}
+use Rattle.spe_serve.specs.declared.reply.Reply.TheVariants as replies
 use Rattle.spe_serve.specs.declared.stop.Stop.{Stop}
-use Rattle.spe_serve.specs.declared.stop.Stop.TheVariants.{Disk, Memory, NotBuilt}
+use Rattle.spe_serve.specs.declared.stop.Stop.TheVariants.{Disk, Memory}
 
-abbrev pub of_miss : Miss → Stop
-of_miss misses.NotBuilt = NotBuilt
-of_miss misses.Memory = Memory
+-- what a fault of the space comes to: a page that there is not is damage
+abbrev pub faulty_reply : SpaceFault → Result Reply Stop
+faulty_reply spaces.Read = Err Disk
+faulty_reply (spaces.PageOut page pages) = Ok (replies.Corrupt page)
+faulty_reply _ = Err Memory
 
-abbrev pub Stops : {Y : Type 0} → Stop → Option Y → Type 0
-Stops NotBuilt found = found ≡ None
-Stops Disk found = Unit {0}
-Stops Memory found = Unit {0}
+-- what a search of a space comes to: damage is an answer
+abbrev pub reply_or_stop : Result Reply TreeFault → Result Reply Stop
+reply_or_stop (Ok reply) = Ok reply
+reply_or_stop (Err (trees.Corrupt page)) = Ok (replies.Corrupt page)
+reply_or_stop (Err (trees.Space fault)) = faulty_reply fault
 
--- what was answered is what is found, unless the disk failed or memory ran out
-abbrev pub Reads : {X Y : Type 0} → (X → Y) → Result X Stop → Option Y → Type 0
-Reads view (Ok x) found = found ≡ Some (view x)
-Reads view (Err stop) found = Stops stop found
-
--- the same, found in what the disk tells
-abbrev pub ReadsTold : {X Y : Type 0} → (X → Y) → Option History → Result X Stop → (Content → Option Y) → Type 0
-ReadsTold view told result found = WhereTold told (λ content. Reads view result (found content))
-
+-- a count of faults has risen where the disk failed
 abbrev pub IsCausedBy : ℕ → ℕ → Stop → Type 0
 IsCausedBy before now Disk = Rose before now
 IsCausedBy before now Memory = Unit {0}
-IsCausedBy before now NotBuilt = Unit {0}
 
--- a count of faults never falls, and has risen where the disk failed
-pub record HasCause {T : Type 0} (before now : ℕ) (result : Result T Stop) : Type 0 where
-  pub later : before ≤ now
-  pub failed : IfErr result (IsCausedBy before now)
-
+-- one of two counts has
 abbrev pub IsCausedByEither : (reads reads_now ops ops_now : ℕ) → Stop → Type 0
 IsCausedByEither reads reads_now ops ops_now Disk = Rose reads reads_now ⊎ Rose ops ops_now
 IsCausedByEither reads reads_now ops ops_now Memory = Unit {0}
-IsCausedByEither reads reads_now ops ops_now NotBuilt = Unit {0}
-
--- two counts of faults never fall, and one has risen where the disk failed
-pub record HasCauses {T : Type 0} (reads reads_now ops ops_now : ℕ) (result : Result T Stop) : Type 0 where
-  pub reads_later : reads ≤ reads_now
-  pub ops_later : ops ≤ ops_now
-  pub failed : IfErr result (IsCausedByEither reads reads_now ops ops_now)

@@ -1,10 +1,10 @@
-//! What the program answers, and why files are not recovered, in words.
+//! What the program answers, in words.
 
 ghost use Rattle.std.specs.Prelude.{◌≡◌, IfOk, OnOk, ◌++◌, codes};
-ghost use Rattle.spe_serve.specs.Reply.{number_of};
+ghost use Rattle.spe_serve.specs.Reply.{number_of, closed_number};
 
 use itoa::Buffer;
-use spe_model::{HeaderFault, RecoverFault, TableRows};
+use spe_model::{Closed, HeaderFault, RecoverFault, TableRows};
 use std::alloc::{AllocError, Global};
 
 /// An answer.
@@ -16,10 +16,29 @@ pub enum Reply {
     NoDatabase,
     /// The files are not recovered, for this reason.
     Refused(RecoverFault),
-    /// The content is of a kind that is not read yet.
+    /// The command is not built yet.
     NotBuilt,
+    /// No page breaks a rule, and there are so many pages, tables, rows in the open ones, and free
+    /// pages.
+    Sound {
+        pages: u32,
+        tables: u32,
+        rows: u64,
+        free: u32,
+    },
+    /// `check` found that this page is the first that breaks a rule, by the rule's number.
+    Damage {
+        page: u32,
+        rule: u8,
+    },
+    /// This page is damaged, or is asked for and there is no such page, so that nothing is read.
+    Corrupt {
+        page: u32,
+    },
     /// The database has no such table.
     NoTable,
+    /// The table is closed, for this reason.
+    ClosedTable(Closed),
     /// The rows of the table, by ascending rowid.
     Rows(TableRows),
 }
@@ -28,6 +47,12 @@ fn fault_number(fault: HeaderFault) -> u8
     ensures { result ≡ number_of fault }
 {
     fault as u8
+}
+
+fn closed_number(why: Closed) -> u8
+    ensures { result ≡ closed_number why }
+{
+    why as u8
 }
 
 fn put_number(out: &mut Vec<u8>, number: u64) -> Result<(), AllocError>
@@ -78,7 +103,7 @@ fn put_reason(out: &mut Vec<u8>, fault: RecoverFault) -> Result<(), AllocError>
 }
 
 /// The line that says why files are not recovered.
-pub fn refusal(alloc: Global, fault: RecoverFault) -> Result<Vec<u8>, AllocError>
+pub fn refusal_line(alloc: Global, fault: RecoverFault) -> Result<Vec<u8>, AllocError>
     ensures { IfOk result (λ v. v.items ≡ line (codes "refused " ++ reason fault)) }
 {
     let mut out = Vec::new(alloc);
@@ -88,6 +113,62 @@ pub fn refusal(alloc: Global, fault: RecoverFault) -> Result<Vec<u8>, AllocError
     Ok(out)
 }
 
+/// The line that says what a sound database has.
+pub fn sound_line(
+    alloc: Global,
+    pages: u32,
+    tables: u32,
+    rows: u64,
+    free: u32,
+) -> Result<Vec<u8>, AllocError>
+    ensures { IfOk result (λ v. v.items ≡ line (counts pages tables rows free)) }
+{
+    let mut out = Vec::new(alloc);
+    out.extend_from_slice(b"ok pages ")?;
+    put_number(&mut out, u64::from(pages))?;
+    out.extend_from_slice(b" tables ")?;
+    put_number(&mut out, u64::from(tables))?;
+    out.extend_from_slice(b" rows ")?;
+    put_number(&mut out, rows)?;
+    out.extend_from_slice(b" free ")?;
+    put_number(&mut out, u64::from(free))?;
+    out.push(b'\n')?;
+    Ok(out)
+}
+
+/// The line that names the first page that breaks a rule, and the rule.
+pub fn damage_line(alloc: Global, page: u32, rule: u8) -> Result<Vec<u8>, AllocError>
+    ensures { IfOk result (λ v. v.items ≡ line (codes "damage " ++ pair page rule)) }
+{
+    let mut out = Vec::new(alloc);
+    out.extend_from_slice(b"damage ")?;
+    put_pair(&mut out, u64::from(page), u64::from(rule))?;
+    out.push(b'\n')?;
+    Ok(out)
+}
+
+/// The line that names a damaged page.
+pub fn corrupt_line(alloc: Global, page: u32) -> Result<Vec<u8>, AllocError>
+    ensures { IfOk result (λ v. v.items ≡ line (codes "refused corrupt " ++ decimal page)) }
+{
+    let mut out = Vec::new(alloc);
+    out.extend_from_slice(b"refused corrupt ")?;
+    put_number(&mut out, u64::from(page))?;
+    out.push(b'\n')?;
+    Ok(out)
+}
+
+/// The line that says why a table is closed.
+pub fn closed_line(alloc: Global, why: Closed) -> Result<Vec<u8>, AllocError>
+    ensures { IfOk result (λ v. v.items ≡ line (codes "refused closed-table " ++ decimal (closed_number why))) }
+{
+    let mut out = Vec::new(alloc);
+    out.extend_from_slice(b"refused closed-table ")?;
+    put_number(&mut out, u64::from(closed_number(why)))?;
+    out.push(b'\n')?;
+    Ok(out)
+}
+
 ghost use Rattle.std.specs.Fmt.{decimal};
 ghost use Rattle.spe_render.specs.Values.{line};
-ghost use Rattle.spe_serve.specs.Reply.{pair, reason};
+ghost use Rattle.spe_serve.specs.Reply.{pair, reason, counts};

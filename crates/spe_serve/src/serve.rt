@@ -4,14 +4,14 @@ ghost use Rattle.std.specs.Prelude.{◌≡◌, ◌⊎◌, ◌≤◌, [], false};
 ghost use Rattle.spe_model.specs.Faults.{Rose};
 ghost use Rattle.spe_model.specs.Settled.{LeavesPages};
 ghost use Rattle.spe_render.specs.Values.{table_text};
-ghost use Rattle.spe_serve.specs.Ending.{AnswersStay, Ends, Prints, PrintsAnswer};
+ghost use Rattle.spe_serve.specs.Ending.{AnswersStay, Ends, Prints, PrintsAnswer, PrintsMade};
 
 use crate::outcome::{Outcome, carry_out};
-use crate::reply::{Reply, refusal};
+use crate::reply::{Reply, closed_line, corrupt_line, damage_line, refusal_line, sound_line};
 use spe_disk::{Disk, Gate, Scripts, Sink, put_all};
 use spe_model::{Commits, TableRows, Words};
 use spe_render::print_table;
-use std::alloc::Global;
+use std::alloc::{AllocError, Global};
 use std::sync::Wait;
 use std::thread::Threads;
 
@@ -19,7 +19,7 @@ use std::thread::Threads;
 #[derive(Debug, Drop)]
 pub struct Finished {
     /// 0 where all is done, 1 where the words are no command, 2 where an input is refused, 3 where
-    /// the outside failed, and 4 where there was no memory.
+    /// the outside failed, 4 where there was no memory, and 5 where `check` found damage.
     pub status: u8,
     /// The commits in their order; none for a command that serves no client.
     pub order: Commits,
@@ -34,6 +34,8 @@ const REFUSED: u8 = 2;
 const FAULT: u8 = 3;
 
 const MEMORY: u8 = 4;
+
+const DAMAGE: u8 = 5;
 
 // Puts a text, and answers the status: this one, or that of a fault.
 fn put<W: Sink>(out: &mut W, text: &[u8], status: u8) -> u8
@@ -55,6 +57,16 @@ fn put_rows<W: Sink>(out: &mut W, rows: &TableRows) -> u8
     }
 }
 
+// Puts a text that was put together, where there was memory for it.
+fn put_made<W: Sink>(out: &mut W, text: Result<Vec<u8>, AllocError>, status: u8) -> u8
+    ensures prints { PrintsMade text status (W.taken out.old) (W.taken out.new) (Rose (W.faults out.old) (W.faults out.new)) result }
+{
+    match text {
+        Ok(text) => put(out, text.as_slice(), status),
+        Err(_) => put(out, b"memory\n", MEMORY),
+    }
+}
+
 // Puts an answer.
 fn put_answer<W: Sink>(alloc: Global, out: &mut W, reply: &Reply) -> u8
     ensures prints { PrintsAnswer reply.now (W.taken out.old) (W.taken out.new) (Rose (W.faults out.old) (W.faults out.new)) result }
@@ -63,56 +75,65 @@ fn put_answer<W: Sink>(alloc: Global, out: &mut W, reply: &Reply) -> u8
     match reply {
         Reply::Words => put(out, b"refused words\n", NO_COMMAND),
         Reply::NoDatabase => put(out, b"refused no-such-database\n", REFUSED),
-        Reply::Refused(fault) => match refusal(alloc, *fault) {
-            Ok(text) => put(out, text.as_slice(), REFUSED),
-            Err(_) => put(out, b"memory\n", MEMORY),
-        },
+        Reply::Refused(fault) => put_made(out, refusal_line(alloc, *fault), REFUSED),
         Reply::NotBuilt => put(out, b"refused not-built\n", REFUSED),
+        Reply::Sound {
+            pages,
+            tables,
+            rows,
+            free,
+        } => put_made(out, sound_line(alloc, *pages, *tables, *rows, *free), DONE),
+        Reply::Damage { page, rule } => put_made(out, damage_line(alloc, *page, *rule), DAMAGE),
+        Reply::Corrupt { page } => put_made(out, corrupt_line(alloc, *page), REFUSED),
         Reply::NoTable => put(out, b"refused no-table\n", REFUSED),
+        Reply::ClosedTable(why) => put_made(out, closed_line(alloc, *why), REFUSED),
         Reply::Rows(rows) => put_rows(out, rows),
     }
 }
 
 // Carries out some words and prints what there is to print.
-fn run<D: Disk, W: Sink>(alloc: Global, words: &Words, disk: &mut D, out: &mut W) -> u8
-    requires { D.attached disk.old ≡ false }
-    ensures ends { Ends words.now (D.told disk.old) (Rose (D.read_faults disk.old) (D.read_faults disk.new) ⊎ Rose (D.op_faults disk.old) (D.op_faults disk.new)) (W.taken out.old) (W.taken out.new) (Rose (W.faults out.old) (W.faults out.new)) result }
-    ensures fault { result ≡ 3 → (Rose (D.read_faults disk.old) (D.read_faults disk.new) ⊎ Rose (D.op_faults disk.old) (D.op_faults disk.new)) ⊎ Rose (W.faults out.old) (W.faults out.new) }
-    ensures leaves { LeavesPages (D.told disk.old) (D.told disk.new) }
+fn run<D: Disk, W: Sink>(alloc: Global, words: &Words, disk: D, out: &mut W) -> (u8, D)
+    requires { D.attached disk ≡ false }
+    ensures ends { Ends words.now (D.told disk) (Rose (D.read_faults disk) (D.read_faults result.1) ⊎ Rose (D.op_faults disk) (D.op_faults result.1)) (W.taken out.old) (W.taken out.new) (Rose (W.faults out.old) (W.faults out.new)) result.0 }
+    ensures fault { result.0 ≡ 3 → (Rose (D.read_faults disk) (D.read_faults result.1) ⊎ Rose (D.op_faults disk) (D.op_faults result.1)) ⊎ Rose (W.faults out.old) (W.faults out.new) }
+    ensures leaves { LeavesPages (D.told disk) (D.told result.1) }
 {
-    match carry_out(alloc, words, disk) {
-        Outcome::Answered(reply) => put_answer(alloc, out, &reply),
-        Outcome::DiskFailed => put(out, b"fault disk\n", FAULT),
-        Outcome::NoMemory => put(out, b"memory\n", MEMORY),
+    let (outcome, disk) = carry_out(alloc, words, disk);
+    match outcome {
+        Outcome::Answered(reply) => (put_answer(alloc, out, &reply), disk),
+        Outcome::DiskFailed => (put(out, b"fault disk\n", FAULT), disk),
+        Outcome::NoMemory => (put(out, b"memory\n", MEMORY), disk),
     }
 }
 
 /// Does all that the program does with the words of its command line, the program's own name left
 /// out.
 ///
-/// So far `rows DATABASE TABLE` is built, which rolls back what hot journals there are and prints the
-/// rows of a table. Other commands are answered as not built, and their database is not looked at.
+/// So far two commands are built. Both roll back what hot journals there are, and then try whether the
+/// pages are sound. `check DATABASE` prints the verdict; `rows DATABASE TABLE` prints the rows of an
+/// open table, and refuses damaged pages, a table that there is not, and a closed one, in this order.
+/// Other commands are answered as not built, and their database is not looked at.
 pub fn spe<R: Threads + Wait + Sync, D: Disk + Send, C: Scripts, W: Sink, G: Gate + Sync>(
     _rt: &R,
     alloc: Global,
     words: Words,
-    mut disk: D,
+    disk: D,
     _scripts: &mut C,
     out: &mut W,
     _gate: &G,
 ) -> (Finished, D)
     requires { D.attached disk ≡ false }
 
-    // The text and the status are those of an outcome of the words.
+    // The text and the status are those of an outcome of the words: a right answer, a failure or want of memory.
     ensures ends { Ends words (D.told disk) (Rose (D.read_faults disk) (D.read_faults result.1) ⊎ Rose (D.op_faults disk) (D.op_faults result.1)) (W.taken out.old) (W.taken out.new) (Rose (W.faults out.old) (W.faults out.new)) result.0.status }
     ensures fault { result.0.status ≡ 3 → (Rose (D.read_faults disk) (D.read_faults result.1) ⊎ Rose (D.op_faults disk) (D.op_faults result.1)) ⊎ Rose (W.faults out.old) (W.faults out.new) }
 
-    // Wherever a stop cuts what was done, the recovered pages are as before, and so is the answer.
+    // Wherever a stop cuts what was done, the recovered pages are as before, and a right answer stays right.
     ensures leaves { LeavesPages (D.told disk) (D.told result.1) }
     ensures stops { AnswersStay words (D.told disk) (D.told result.1) }
     ensures order { result.0.order ≡ [] }
 {
-    let status = run(alloc, &words, &mut disk, out);
+    let (status, disk) = run(alloc, &words, disk, out);
     let order = Commits::new(Vec::new(alloc));
     (Finished { status, order }, disk)
 }

@@ -97,8 +97,10 @@ fn scripts(rt: HostRuntime) -> Result<(), Fail> {
     Ok(())
 }
 
+// The test prints a line.
 #[test]
-fn nothing_put(rt: HostRuntime) {
+fn puts(rt: HostRuntime) {
     let mut sink = OutSink::new(&rt);
     assert!(rt; sink.put(b"") == Ok(0));
+    assert!(rt; sink.put(b"put\n") == Ok(4));
 }

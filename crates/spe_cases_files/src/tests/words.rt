@@ -71,6 +71,110 @@ static LINES: [(&[&str], &str); 46] = [
     ),
 ];
 
+// Words with options of `run`: both spellings, the ends of their ranges, leading zeros.
+static OPTIONS: [(&[&str], &str); 43] = [
+    (
+        &["run", "B", "s", "--workers", "2"],
+        "run B s 2 1000 262144",
+    ),
+    (&["run", "B", "--workers=2", "s"], "run B s 2 1000 262144"),
+    (
+        &["run", "B", "s", "--workers", "1"],
+        "run B s 1 1000 262144",
+    ),
+    (&["run", "B", "s", "--workers=16"], "run B s 16 1000 262144"),
+    (&["run", "B", "s", "--workers", "0"], "none"),
+    (&["run", "B", "s", "--workers=17"], "none"),
+    (
+        &["run", "B", "s", "--workers", "0000000003"],
+        "run B s 3 1000 262144",
+    ),
+    (&["run", "B", "s", "--workers", "00000000003"], "none"),
+    (&["run", "B", "s", "--workers", "4294967297"], "none"),
+    (&["run", "B", "s", "--workers=2", "--workers=3"], "none"),
+    (
+        &["run", "B", "--", "--workers=2"],
+        "run B --workers=2 4 1000 262144",
+    ),
+    (&["run", "B", "s", "--retries", "7"], "run B s 4 7 262144"),
+    (&["run", "--retries=7", "B", "s"], "run B s 4 7 262144"),
+    (&["run", "B", "s", "--retries", "0"], "run B s 4 0 262144"),
+    (
+        &["run", "B", "s", "--retries=1000000"],
+        "run B s 4 1000000 262144",
+    ),
+    (&["run", "B", "s", "--retries=1000001"], "none"),
+    (
+        &["run", "B", "s", "--retries", "0000000007"],
+        "run B s 4 7 262144",
+    ),
+    (&["run", "B", "s", "--retries", "00000000007"], "none"),
+    (&["run", "B", "s", "--retries", "4294967296"], "none"),
+    (
+        &["run", "B", "s", "--retries", "7", "--retries", "7"],
+        "none",
+    ),
+    (
+        &["run", "B", "--", "s", "--retries", "7"],
+        "run B s,--retries,7 4 1000 262144",
+    ),
+    (
+        &["run", "B", "--", "--retries=7"],
+        "run B --retries=7 4 1000 262144",
+    ),
+    (&["run", "B", "s", "--slots", "32"], "run B s 4 1000 32"),
+    (
+        &["run", "B", "s", "--slots=131072"],
+        "run B s 4 1000 131072",
+    ),
+    (&["run", "B", "s", "--slots", "16"], "run B s 4 1000 16"),
+    (
+        &["run", "B", "s", "--slots=262144"],
+        "run B s 4 1000 262144",
+    ),
+    (&["run", "B", "s", "--slots=0"], "none"),
+    (&["run", "B", "s", "--slots=8"], "none"),
+    (&["run", "B", "s", "--slots=524288"], "none"),
+    (&["run", "B", "s", "--slots", "100000"], "none"),
+    (
+        &["run", "B", "s", "--slots", "0000000016"],
+        "run B s 4 1000 16",
+    ),
+    (&["run", "B", "s", "--slots", "00000000016"], "none"),
+    (&["run", "B", "s", "--slots", "4294967312"], "none"),
+    (&["run", "B", "s", "--slots=16", "--slots", "16"], "none"),
+    (
+        &["run", "B", "--", "s", "--slots", "16"],
+        "run B s,--slots,16 4 1000 262144",
+    ),
+    (
+        &["run", "B", "--", "--slots=16"],
+        "run B --slots=16 4 1000 262144",
+    ),
+    (
+        &[
+            "run",
+            "--slots=64",
+            "B",
+            "--workers",
+            "3",
+            "s",
+            "--retries=5",
+            "t",
+        ],
+        "run B s,t 3 5 64",
+    ),
+    (
+        &["run", "B", "s", "--workers", "2", "3"],
+        "run B s,3 2 1000 262144",
+    ),
+    (&["run", "B", "s", "--workers="], "none"),
+    (&["run", "B", "s", "--workers", "--", "2"], "none"),
+    (&["run", "B", "s", "--workers", "-2"], "none"),
+    (&["run", "B", "s", "--retries=7x"], "none"),
+    (&["run", "B", "s", "--slots", "+16"], "none"),
+];
+
 fn words_of(alloc: Global, words: &[&str]) -> Result<Words, AllocError> {
     let mut found = Vec::new(alloc);
     for word in words {
@@ -145,6 +249,14 @@ fn expect(rt: &impl Abort, alloc: Global, words: &[&str], text: &str) -> Result<
 #[test]
 fn lines(rt: HostRuntime) -> Result<(), Fail> {
     for (words, text) in &LINES {
+        expect(&rt, rt.alloc(), *words, *text)?;
+    }
+    Ok(())
+}
+
+#[test]
+fn options(rt: HostRuntime) -> Result<(), Fail> {
+    for (words, text) in &OPTIONS {
         expect(&rt, rt.alloc(), *words, *text)?;
     }
     Ok(())

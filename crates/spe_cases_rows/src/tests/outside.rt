@@ -35,8 +35,8 @@ static WORDS: [(&[&str], u8, &str); 17] = [
         2,
         "refused no-such-database\n",
     ),
+    (&["check", "b.db"], 2, "refused no-such-database\n"),
     // commands to come
-    (&["check", "b.db"], 2, "refused not-built\n"),
     (&["prepare", "b.db", "2"], 2, "refused not-built\n"),
     (&["release", "b.db"], 2, "refused not-built\n"),
     (&["run", "b.db", "s"], 2, "refused not-built\n"),
@@ -72,17 +72,17 @@ static FILES: [(Patch, usize, &str); 22] = [
         1024,
         "refused too-large 2097153\n",
     ),
-    // a freelist
-    ((35, b"\x02"), 1024, "refused not-built\n"),
-    // an interior page, cells that overlap, keys out of order, a reserved serial type
-    ((512, b"\x05"), 1024, "refused not-built\n"),
-    ((520, b"\x01\xf9"), 1024, "refused not-built\n"),
-    ((520, b"\x01\xf0\x01\xf8"), 1024, "refused not-built\n"),
-    ((1007, b"\x0a"), 1024, "refused not-built\n"),
-    // a root page past the file, the schema's own page as a root, another kind of type
-    ((462, b"\x03"), 1024, "refused not-built\n"),
-    ((462, b"\x01"), 1024, "refused not-built\n"),
-    ((455, b"tible"), 1024, "refused not-built\n"),
+    // a node page that is the page of a table
+    ((35, b"\x02"), 1024, "refused corrupt 2\n"),
+    // an interior page, keys out of order by one offset and by two, a reserved serial type
+    ((512, b"\x05"), 1024, "refused corrupt 2\n"),
+    ((520, b"\x01\xf9"), 1024, "refused corrupt 2\n"),
+    ((520, b"\x01\xf0\x01\xf8"), 1024, "refused corrupt 2\n"),
+    ((1007, b"\x0a"), 1024, "refused corrupt 2\n"),
+    // a root page past the file, the schema's own page as a root, an object that is no table
+    ((462, b"\x03"), 1024, "refused corrupt 1\n"),
+    ((462, b"\x01"), 1024, "refused corrupt 1\n"),
+    ((455, b"tible"), 1024, "refused no-table\n"),
 ];
 
 #[test]

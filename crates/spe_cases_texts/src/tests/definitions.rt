@@ -67,6 +67,128 @@ static UNKNOWN: [&str; 16] = [
     "CREATE TABLE t(a TEXT ?)",
 ];
 
+// More texts with their columns: constraints in any order, names of every spelling, lengths and comments.
+static SPELLED: [(&str, &str); 13] = [
+    (
+        "CREATE TABLE t(a INTEGER PRIMARY KEY ASC NOT NULL NULL)",
+        "a integer!*|",
+    ),
+    ("CREATE TABLE t(a INTEGER NULL PRIMARY KEY)", "a integer*|"),
+    (
+        "CREATE TABLE \"main\"\"t\"(\"key\" TEXT, [NULL] \"INT\", `not` 'x')",
+        "key text|NULL integer|not numeric|",
+    ),
+    (
+        "CREATE TABLE select(order, group TEXT, values INT)",
+        "order blob|group text|values integer|",
+    ),
+    (
+        "CREATE TABLE t(\u{e9}t\u{e9} TEXT, _a$1 \u{fc}ber)",
+        "\u{e9}t\u{e9} text|_a$1 numeric|",
+    ),
+    (
+        "CREATE TABLE t(a 'te''xt', b [my int], c \"x\"\"blob\", d `real`)",
+        "a numeric|b integer|c blob|d real|",
+    ),
+    (
+        "CREATE TABLE t(a VARCHAR ( 10 ), b DECIMAL(+10,- 5), c FLOAT(-1), d X(007))",
+        "a text|b numeric|c real|d numeric|",
+    ),
+    (
+        "CREATE TABLE t(a x y z(1) NOT NULL, b DOUBLE(1, 2) NULL)",
+        "a numeric!|b real|",
+    ),
+    (
+        "CREATE/**/TABLE--\nt/**/(a/*,*/,b/* not\n*/INT--)\n)",
+        "a blob|b integer|",
+    ),
+    ("CREATE TABLE t(a TEXT)-- the end", "a text|"),
+    ("CREATE TABLE t(a TEXT)/* the end", "a text|"),
+    (
+        "CREATE TABLE t(a \"--\", b '/* no comment', [c--])",
+        "a numeric|b numeric|c-- blob|",
+    ),
+    (
+        "CREATE TABLE t(a INTEGER PRIMARY KEY, A, b, B TEXT)",
+        "a integer*|A blob|b blob|B text|",
+    ),
+];
+
+// Types, and the affinity that they give a column.
+static TYPES: [(&str, &str); 18] = [
+    ("TEXTINT", "integer"),
+    ("FLOATINGPOINT", "integer"),
+    ("BLOBCHAR", "text"),
+    ("REALCLOB", "text"),
+    ("NTEXT", "text"),
+    ("XBLOBREAL", "blob"),
+    ("DOUBT", "real"),
+    ("FLOAT8", "real"),
+    ("Surreal", "real"),
+    ("STRING", "numeric"),
+    ("BOOLEAN", "numeric"),
+    ("DATE TIME", "numeric"),
+    ("FLO AT", "numeric"),
+    ("cha r", "numeric"),
+    ("IN\u{d6}T", "numeric"),
+    ("\u{130}NT", "numeric"),
+    ("point", "integer"),
+    ("Varchar", "text"),
+];
+
+// More texts that are not understood: what stands before and behind the columns,
+static FRAMES: [&str; 20] = [
+    "",
+    "CREATE TABLE",
+    "CREATE TABLE t",
+    "CREATE TABLE t()",
+    "CREATE TABLE t(a",
+    "CREATE TABLE t(a TEXT))",
+    "CREATE TABLE t(,a)",
+    "CREATE TABLE t(a b c,)",
+    "CREATE TEMP TABLE t(a)",
+    "CREATE VIRTUAL TABLE t USING fts5(a)",
+    "CREATE TABLE t AS SELECT 1",
+    "CREATE TABLE main.t(a)",
+    "CREATE VIEW t(a)",
+    "\"CREATE\" TABLE t(a)",
+    "CREATE TABLE t(a) STRICT",
+    "CREATE TABLE t(1)",
+    "CREATE TABLE t(a 1)",
+    "CREATE TABLE t(x'00')",
+    "CREATE TABLE not(a)",
+    "CREATE TABLE t(\"\" TEXT)",
+];
+
+// and what stands in them.
+static PARTS: [&str; 25] = [
+    "CREATE TABLE t(key TEXT)",
+    "CREATE TABLE t(a TEXT unique)",
+    "CREATE TABLE t(a TEXT COLLATE NOCASE)",
+    "CREATE TABLE t(a TEXT CHECK(a > 1))",
+    "CREATE TABLE t(a REFERENCES b)",
+    "CREATE TABLE t(a AS (1))",
+    "CREATE TABLE t(a INT GENERATED ALWAYS AS (1))",
+    "CREATE TABLE t(a CONSTRAINT c NOT NULL)",
+    "CREATE TABLE t(a, FOREIGN KEY(a) REFERENCES b)",
+    "CREATE TABLE t(a, PRIMARY KEY(a))",
+    "CREATE TABLE t(a NOT)",
+    "CREATE TABLE t(a INT ASC)",
+    "CREATE TABLE t(a INTEGER PRIMARY)",
+    "CREATE TABLE t(a INTEGER ASC PRIMARY KEY)",
+    "CREATE TABLE t(a INTEGER NOT NULL TEXT)",
+    "CREATE TABLE t(a (10))",
+    "CREATE TABLE t(a VARCHAR())",
+    "CREATE TABLE t(a VARCHAR(1.5))",
+    "CREATE TABLE t(a VARCHAR(1, 2, 3))",
+    "CREATE TABLE t(a VARCHAR(max))",
+    "CREATE TABLE t(a INT(1) UNSIGNED)",
+    "CREATE TABLE t(a INTEGER(1) PRIMARY KEY, b)",
+    "CREATE TABLE t(a 'INTEGER' PRIMARY KEY)",
+    "CREATE TABLE t(a INT EGER PRIMARY KEY)",
+    "CREATE TABLE t(a INTEGER /* not closed PRIMARY KEY)",
+];
+
 fn affinity(affinity: Affinity) -> &'static str {
     match affinity {
         Affinity::Integer => " integer",
@@ -118,6 +240,49 @@ fn declared(rt: HostRuntime) -> Result<(), Fail> {
 #[test]
 fn unknown(rt: HostRuntime) -> Result<(), Fail> {
     for sql in &UNKNOWN {
+        expect(&rt, rt.alloc(), *sql, "")?;
+    }
+    Ok(())
+}
+
+#[test]
+fn spelled(rt: HostRuntime) -> Result<(), Fail> {
+    for (sql, columns) in &SPELLED {
+        expect(&rt, rt.alloc(), *sql, *columns)?;
+    }
+    Ok(())
+}
+
+fn expect_type<R: Abort>(
+    rt: &R,
+    alloc: Global,
+    declared: &str,
+    affinity: &str,
+) -> Result<(), AllocError> {
+    let sql = format!(in alloc; "CREATE TABLE t(a {declared})")?;
+    let columns = format!(in alloc; "a {affinity}|")?;
+    expect(rt, alloc, sql.as_str(), columns.as_str())
+}
+
+#[test]
+fn types(rt: HostRuntime) -> Result<(), Fail> {
+    for (declared, affinity) in &TYPES {
+        expect_type(&rt, rt.alloc(), *declared, *affinity)?;
+    }
+    Ok(())
+}
+
+#[test]
+fn unknown_frames(rt: HostRuntime) -> Result<(), Fail> {
+    for sql in &FRAMES {
+        expect(&rt, rt.alloc(), *sql, "")?;
+    }
+    Ok(())
+}
+
+#[test]
+fn unknown_parts(rt: HostRuntime) -> Result<(), Fail> {
+    for sql in &PARTS {
         expect(&rt, rt.alloc(), *sql, "")?;
     }
     Ok(())

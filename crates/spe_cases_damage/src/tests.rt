@@ -1,0 +1,15 @@
+mod cells;
+mod files;
+mod journals;
+mod kinds;
+mod leaves;
+mod lists;
+mod order;
+mod outside;
+mod pages;
+mod read_only;
+mod records;
+mod references;
+mod run;
+mod sound;
+mod tables;

@@ -1,0 +1,60 @@
+//! A database file with open and closed tables, as sqlite3 made it.
+
+use super::files::{Patch, file_of};
+use std::alloc::{AllocError, Global};
+
+static KINDS: [Patch; 18] = [
+    (
+        0,
+        b"SQLite format 3\x00\x02\x00\x01\x01\x00@  \x00\x00\x00\x0f\x00\x00\x00\x0d",
+    ),
+    (43, b"\x0d\x00\x00\x00\x04"),
+    (59, b"\x01"),
+    (
+        95,
+        b"\x0f\x00.c\x01\x05\x00\x00\x00\x01\x01\xfb\x00\x00\x00\x00\x0a\x01\xfb",
+    ),
+    (
+        510,
+        b"\x07\x05\x0d\x00\x00\x00\x02\x01\xdd\x00\x01\xe7\x01\xdd",
+    ),
+    (
+        989,
+        b"\x08\x03\x05\x00\x00\x11\x01\xc3\xa9\x02\x0f\xff\xff\xff\xff\xff\xff\xff\xff\xfe\x05\x01\x00\x0f\x07\x05x?\xf8\x00\x00\x00\x00\x00\x00\x0d\x00\x00\x00\x01\x01\xef\x00\x01\xef",
+    ),
+    (
+        1519,
+        b"\x0f\x05\x07\x00\x08\x09\x07\x0d\x0c?\xf8\x00\x00\x00\x00\x00\x00\x0d\x00\x00\x00\x00\x02",
+    ),
+    (2048, b"\x0d\x00\x00\x00\x00\x02"),
+    (2560, b"\x0a\x00\x00\x00\x00\x02"),
+    (
+        3072,
+        b"\x0d\x00\x00\x00\x05\x00J\x00\x01H\x01\x1a\x00\xd7\x00\x85\x00J",
+    ),
+    (
+        3146,
+        b"9\x05\x06\x17\x0f\x0f\x01ctableww\x06CREATE TABLE w(a PRIMARY KEY) WITHOUT ROWIDP\x04\x06\x17++\x01Ytablesqlite_sequencesqlite_sequence\x05CREATE TABLE sqlite_sequence(name,seq)A\x03\x06\x17\x0f\x0f\x01stabless\x04CREATE TABLE s(a INTEGER PRIMARY KEY AUTOINCREMENT),\x02\x06\x17\x0f\x0f\x01Itableff\x03CREATE TABLE f(a,b,c,d,e,f, g)\x815\x01\x07\x17\x15\x15\x01\x82Mtableit'sit's\x02CREATE TABLE \"it's\"([two words] UNSIGNED BIG INT, `id` integer /* the rowid */ primary key asc, \"a\"\"b\" 'varchar'(10), -- to the end\x0a c DECIMAL(10, -5) NOT NULL)\x0d\x00\x00\x00\x00\x02",
+    ),
+    (4096, b"\x0a\x00\x00\x00\x00\x02"),
+    (
+        4608,
+        b"\x0d\x01s\x00\x08\x001\x00\x01R\x01*\x01\x09\x00\xc6\x00\x83\x00\\\x001\x01\xd8",
+    ),
+    (
+        4657,
+        b")\x0c\x06\x17\x0f\x0f\x01Ctabledd\x0cCREATE TABLE d(a DEFAULT 1)%\x0b\x06\x15\x0f\x0f\x08?viewvvCREATE VIEW v AS SELECT 1A\x0a\x06\x1b\x11\x0f\x08otriggern2nCREATE TRIGGER n2 INSERT ON n BEGIN SELECT 1; ENDA\x09\x06\x1b\x11\x0f\x08otriggerg1gCREATE TRIGGER g1 INSERT ON g BEGIN SELECT 1; END\x1f\x08\x06\x17\x0f\x0f\x01/tablegg\x0bCREATE TABLE g(a)&\x07\x06\x17\x11\x0f\x01;indexn1n\x09CREATE INDEX n1 ON n(a)\x1f\x06\x06\x17\x0f\x0f\x01/tablenn\x08CREATE TABLE n(a)",
+    ),
+    (4982, b"e"),
+    (
+        5080,
+        b"&\x0d\x06\x17\x11\x0f\x01;indexd1d\x0dCREATE INDEX d1 ON d(a)\x0d\x00\x00\x00\x00\x02",
+    ),
+    (5632, b"\x0d\x00\x00\x00\x00\x02"),
+    (6144, b"\x0a\x00\x00\x00\x00\x02"),
+];
+
+/// The tables `it's`, `f`, `s`, `sqlite_sequence`, `w`, `n`, `g` and `d`, a view, and indexes and triggers.
+pub fn kinds(alloc: Global) -> Result<Vec<u8>, AllocError> {
+    file_of(alloc, 6656, &KINDS)
+}

@@ -1,0 +1,139 @@
+-- The answers over the pages that recovery found in the files.
+use Rattle.std.proofs.Common.{◌≡◌, ℕ, ◌-◌, List, take, Option, Some, None, Result, Ok, Err, IfErr, IfOk, IfSome, arith, refl, sym, ap, ◌∙◌, subst}
+use Rattle.spe_model.specs.declared.recovery.Recovered.{Recovered}
+use Rattle.spe_model.specs.declared.recovery.RecoverFault.{RecoverFault}
+use Rattle.spe_model.specs.declared.recovery.RecoverFault.TheVariants as refusals
+use Rattle.spe_model.specs.Content.{Content}
+use Rattle.spe_model.specs.Header.{header_of}
+use Rattle.spe_model.specs.Paging.{Paging}
+use Rattle.spe_model.specs.Recovery.{recovered}
+use Rattle.spe_model.specs.Served.{usable_in}
+use Rattle.spe_model.specs.Settled.{IsFound, LeavesPages, header_in, page_in}
+use Rattle.spe_model.specs.Trace.{History, present}
+use Rattle.spe_space.specs.Calls.{Reads, RefusesTree}
+use Rattle.spe_space.specs.Found.{OnMissing}
+use Rattle.spe_space.specs.Outcome.{IsInside}
+use Rattle.spe_space.specs.declared.pages.Pages.{Ghosts}
+use Rattle.spe_space.specs.declared.fault.SpaceFault.TheVariants.{Busy, Read, Stopped, Full, PageOut, Corrupt as Spoilt, Memory}
+use Rattle.spe_space.specs.declared.fault.TreeFault.{TreeFault}
+use Rattle.spe_space.specs.declared.fault.TreeFault.TheVariants.{Space, Corrupt}
+use Rattle.spe_check.specs.Found.{GivesFound}
+use Rattle.spe_check.specs.Held.{held_pages, told_pages}
+use Rattle.spe_recover.specs.declared.want.Want.TheVariants.{Any}
+use Rattle.spe_recover.specs.Recovered.{HasPages, IsRefusal}
+use Rattle.spe_recover.specs.Told.{WhereTold, WhereBothTold}
+use Rattle.spe_words.specs.declared.command.Command.{Command}
+use Rattle.spe_serve.specs.declared.reply.Reply.{Reply}
+use Rattle.spe_serve.specs.declared.stop.Stop.{Stop}
+use Rattle.spe_serve.specs.Answer.{IsOfRecovery, IsOverPages, IsOverRecovered}
+use Rattle.spe_serve.specs.Ending.{refused_for}
+use Rattle.spe_serve.specs.Space.{AsksInside, Gives, HasFront}
+use Rattle.spe_serve.specs.Stop.{reply_or_stop}
+
+abbrev used_of : Recovered → ℕ
+used_of found = found.page_size - found.reserved
+
+abbrev first_of : Recovered → Content → Paging
+first_of found content = page_in (held_pages found.page_size found.pages content)
+
+used_is : (found : Recovered) (content : Content) (pages : List (List ℕ)) → IsFound found content pages → usable_in (header_in pages) ≡ used_of found
+used_is found content pages is = rw (is.page_size, is.reserved) refl
+
+found_front : (found : Recovered) (content : Content) (pages : List (List ℕ)) → GivesFound → IsFound found content pages
+    → HasFront found.page_size (used_of found) (first_of found content)
+found_front found content pages law is = record {
+  header = header_in pages;
+  legal = ap (λ (ps : List (List ℕ)). header_of (take 100 (page_in ps 1))) (law found content pages is) ∙ is.legal;
+  size_is = is.page_size;
+  used_is = used_is found content pages is;
+}
+
+answered : (found : Recovered) (content : Content) (pages : List (List ℕ)) (c : Command) (reply : Reply) → GivesFound → IsFound found content pages
+    → IsOverPages c (used_of found) found.pages (first_of found content) reply → IsOverRecovered c pages reply
+answered found content pages c reply law is over = rw (used_is found content pages is, sym is.counted, sym (law found content pages is)) over
+
+nothing_told : (r : Result Reply Stop) → IfOk r (λ reply. Unit {0})
+nothing_told (Ok reply) = tt
+nothing_told (Err stop) = tt
+
+-- a page that is asked for and is none of the space's is none of so many
+abbrev pub AsksOutside : ℕ → Result Reply TreeFault → Type 0
+AsksOutside count result = IfErr result (OnMissing (λ at. IsInside count at → ⊥))
+
+-- the space keeps such a fault, and with it a page that is none of its own
+pub asks_outside : {P : Type 0} (g : Ghosts P) (old new : P) (count : ℕ) (result : Result Reply TreeFault) → Reads g old new → g.count old ≡ count → RefusesTree g old new result
+    → ((at number : ℕ) → g.refusal new ≡ Some (PageOut at number) → IsInside (g.count new) at → ⊥) → AsksOutside count result
+asks_outside g old new count (Ok reply) reads counted kept missing = tt
+asks_outside g old new count (Err (Corrupt page)) reads counted kept missing = tt
+asks_outside g old new count (Err (Space (PageOut at number))) reads counted kept missing = λ inside. missing at number kept (inside.0, let more = reads.count in omega (arith, inside.1, counted, more))
+asks_outside g old new count (Err (Space (Busy page word))) reads counted kept missing = tt
+asks_outside g old new count (Err (Space Read)) reads counted kept missing = tt
+asks_outside g old new count (Err (Space (Stopped op))) reads counted kept missing = tt
+asks_outside g old new count (Err (Space (Full pages))) reads counted kept missing = tt
+asks_outside g old new count (Err (Space (Spoilt page))) reads counted kept missing = tt
+asks_outside g old new count (Err (Space Memory)) reads counted kept missing = tt
+
+told_answered : (told : Option History) (found : Recovered) (c : Command) (result : Result Reply TreeFault) → GivesFound
+    → IfSome (told_pages told found.page_size found.pages)
+    (λ pages. HasFront found.page_size (used_of found) pages → Gives (IsOverPages c (used_of found) found.pages pages) result)
+    → IfSome (told_pages told found.page_size found.pages) (λ pages. HasFront found.page_size (used_of found) pages → AsksInside found.pages result)
+    → AsksOutside found.pages result
+    → IfOk (reply_or_stop result) (λ reply. WhereTold told (λ content. (pages : List (List ℕ)) → IsFound found content pages → IsOverRecovered c pages reply))
+told_answered None found c result law over asks out = nothing_told (reply_or_stop result)
+told_answered (Some h) found c (Ok reply) law over asks out = λ pages is.
+    answered found (present h) pages c reply law is (over (found_front found (present h) pages law is))
+told_answered (Some h) found c (Err (Corrupt page)) law over asks out = λ pages is. absurd (over (found_front found (present h) pages law is))
+told_answered (Some h) found c (Err (Space (PageOut page number))) law over asks out = λ pages is.
+    absurd (out (asks (found_front found (present h) pages law is)))
+told_answered (Some h) found c (Err (Space (Busy page word))) law over asks out = tt
+told_answered (Some h) found c (Err (Space Read)) law over asks out = tt
+told_answered (Some h) found c (Err (Space (Stopped op))) law over asks out = tt
+told_answered (Some h) found c (Err (Space (Full pages))) law over asks out = tt
+told_answered (Some h) found c (Err (Space (Spoilt page))) law over asks out = tt
+told_answered (Some h) found c (Err (Space Memory)) law over asks out = tt
+
+-- what is answered over the pages that the space tells is right over the recovered ones
+pub pages_answered : (told : Option History) (found : Recovered) (size used count : ℕ) (c : Command) (result : Result Reply TreeFault) → GivesFound
+    → size ≡ found.page_size → used ≡ used_of found → count ≡ found.pages
+    → IfSome (told_pages told size count) (λ pages. HasFront size used pages → Gives (IsOverPages c used found.pages pages) result)
+    → IfSome (told_pages told size count) (λ pages. HasFront size used pages → AsksInside found.pages result)
+    → AsksOutside found.pages result
+    → IfOk (reply_or_stop result) (λ reply. WhereTold told (λ content. (pages : List (List ℕ)) → IsFound found content pages → IsOverRecovered c pages reply))
+pages_answered told found size used count c result law size_is used_is count_is over asks out =
+    told_answered told found c result law (rw (size_is, used_is, count_is) at over) (rw (size_is, used_is, count_is) at asks) out
+
+recovered_reply : (found : Recovered) (content now : Content) (c : Command) (reply : Reply) → HasPages content found.pages
+    → ((pages : List (List ℕ)) → recovered content ≡ Ok pages → IsFound found now pages)
+    → ((pages : List (List ℕ)) → IsFound found now pages → IsOverRecovered c pages reply)
+    → IsOfRecovery c (recovered content) reply
+recovered_reply found content now c reply has settled read =
+    subst (λ (r : Result (List (List ℕ)) RecoverFault). IsOfRecovery c r reply) (sym has.recovers) (read has.pages (settled has.pages has.recovers))
+
+-- what is read off the files afterwards is right over what they held before
+pub settled_reply : (old new : Option History) (found : Recovered) (c : Command) (result : Result Reply Stop) → WhereTold old (λ content. HasPages content found.pages)
+    → WhereBothTold old new (λ content now. (pages : List (List ℕ)) → recovered content ≡ Ok pages → IsFound found now pages)
+    → LeavesPages old new
+    → IfOk result (λ reply. WhereTold new (λ now. (pages : List (List ℕ)) → IsFound found now pages → IsOverRecovered c pages reply))
+    → IfOk result (λ reply. WhereTold old (λ content. IsOfRecovery c (recovered content) reply))
+settled_reply old new found c (Err stop) has settled leaves read = tt
+settled_reply None new found c (Ok reply) has settled leaves read = tt
+settled_reply (Some h) None found c (Ok reply) has settled leaves read = absurd (let none = leaves.adds in cc)
+settled_reply (Some h) (Some k) found c (Ok reply) has settled leaves read = recovered_reply found (present h) (present k) c reply has settled read
+
+-- a reason that the files give is the answer
+pub refused_reply : (told : Option History) (fault : RecoverFault) (c : Command) → WhereTold told (IsRefusal Any fault)
+    → IfOk (refused_for fault) (λ reply. WhereTold told (λ content. IsOfRecovery c (recovered content) reply))
+refused_reply told refusals.Disk c why = tt
+refused_reply told refusals.Memory c why = tt
+refused_reply None (refusals.Header fault) c why = tt
+refused_reply None (refusals.JournalPage id size) c why = tt
+refused_reply None (refusals.Overlap page a b) c why = tt
+refused_reply None (refusals.TooLarge pages) c why = tt
+refused_reply None (refusals.ShortFile pages bytes) c why = tt
+refused_reply None refusals.NotPrepared c why = tt
+refused_reply (Some h) (refusals.Header fault) c why = rw why refl
+refused_reply (Some h) (refusals.JournalPage id size) c why = rw why refl
+refused_reply (Some h) (refusals.Overlap page a b) c why = rw why refl
+refused_reply (Some h) (refusals.TooLarge pages) c why = rw why refl
+refused_reply (Some h) (refusals.ShortFile pages bytes) c why = rw why refl
+refused_reply (Some h) refusals.NotPrepared c why = absurd (let no_want = why.unwanted in cc)

@@ -1,0 +1,77 @@
+-- Which answers are right: `check` and `rows` over the recovered pages of a database.
+use Rattle.std.specs.Prelude.{◌≡◌, ℕ, Bool, true, false, List, length, Option, Some, None, Result, Ok, Err}
+use Rattle.spe_model.specs.declared.file.FileNo.TheVariants as files
+use Rattle.spe_model.specs.declared.recovery.RecoverFault.{RecoverFault}
+use Rattle.spe_model.specs.declared.table.Closed.{Closed}
+use Rattle.spe_model.specs.declared.table.TableDef.{TableDef}
+use Rattle.spe_model.specs.declared.verdict.Verdict.{Verdict}
+use Rattle.spe_model.specs.declared.verdict.Verdict.TheVariants as verdicts
+use Rattle.spe_model.specs.Content.{Content, file_of}
+use Rattle.spe_model.specs.Database.{Database, Row}
+use Rattle.spe_model.specs.Paging.{Paging}
+use Rattle.spe_model.specs.Recovery.{recovered}
+use Rattle.spe_model.specs.Rows.{table_named}
+use Rattle.spe_model.specs.Served.{usable_in}
+use Rattle.spe_model.specs.Settled.{header_in, page_in}
+use Rattle.spe_model.specs.Standing.{StandsFor}
+use Rattle.spe_model.specs.Verdict.{verdict_of}
+use Rattle.spe_words.specs.declared.command.Command.{Command}
+use Rattle.spe_words.specs.declared.command.Command.TheVariants as commands
+use Rattle.spe_serve.specs.declared.reply.Reply.{Reply}
+use Rattle.spe_serve.specs.declared.reply.Reply.TheVariants as replies
+
+-- the answer of `check` to a verdict over so many pages
+abbrev pub reply_of_verdict : (count : ℕ) → Verdict → Reply
+reply_of_verdict count (verdicts.Stands tables rows free) = replies.Sound count tables rows free
+reply_of_verdict count (verdicts.Broken page rule) = replies.Damage page rule
+
+-- the answer of `rows` about a table: its rows, unless it is closed
+abbrev pub reply_of_rows : List Row → Option Closed → Reply
+reply_of_rows rows None = replies.Rows rows
+reply_of_rows rows (Some why) = replies.ClosedTable why
+
+abbrev pub reply_of_table : Option (TableDef × List Row) → Reply
+reply_of_table None = replies.NoTable
+reply_of_table (Some found) = reply_of_rows found.1 found.0.closed
+
+-- the pages stand for a database, and the answer is what that says of the table of this name
+pub record IsOfStanding (name : List ℕ) (usable count : ℕ) (pages : Paging) (reply : Reply) : Type 0 where
+  pub db : Database
+  pub stands : StandsFor usable count pages db
+  pub reply_is : reply ≡ reply_of_table (table_named name db)
+
+-- the answer of `rows` after a verdict: a broken page comes before the table
+abbrev pub IsOfVerdict : (name : List ℕ) (usable count : ℕ) (pages : Paging) → Verdict → Reply → Type 0
+IsOfVerdict name usable count pages (verdicts.Broken page rule) reply = reply ≡ replies.Corrupt page
+IsOfVerdict name usable count pages (verdicts.Stands tables rows free) reply = IsOfStanding name usable count pages reply
+
+-- the answer to a command over so many pages by number
+abbrev pub IsOverPages : Command → (usable count : ℕ) (pages : Paging) → Reply → Type 0
+IsOverPages (commands.Check db) usable count pages reply = reply ≡ reply_of_verdict count (verdict_of usable count pages)
+IsOverPages (commands.Rows db table) usable count pages reply = IsOfVerdict table usable count pages (verdict_of usable count pages) reply
+IsOverPages _ usable count pages reply = ⊥
+
+-- the answer over the recovered pages, whose header says how many bytes of each are used
+abbrev pub IsOverRecovered : Command → List (List ℕ) → Reply → Type 0
+IsOverRecovered c pages reply = IsOverPages c (usable_in (header_in pages)) (length pages) (page_in pages) reply
+
+-- or the reason why there are none
+abbrev pub IsOfRecovery : Command → Result (List (List ℕ)) RecoverFault → Reply → Type 0
+IsOfRecovery c (Err fault) reply = reply ≡ replies.Refused fault
+IsOfRecovery c (Ok pages) reply = IsOverRecovered c pages reply
+
+abbrev pub IsOfFile : Command → Content → Option (List ℕ) → Reply → Type 0
+IsOfFile c content None reply = reply ≡ replies.NoDatabase
+IsOfFile c content (Some file) reply = IsOfRecovery c (recovered content) reply
+
+-- the commands that look at a database so far
+abbrev pub is_built : Command → Bool
+is_built (commands.Rows db table) = true
+is_built (commands.Check db) = true
+is_built _ = false
+
+-- the answer to a command over a content; that it is not built comes before its database is looked at
+abbrev pub IsReplyTo : Command → Content → Reply → Type 0
+IsReplyTo (commands.Rows db table) content reply = IsOfFile (commands.Rows db table) content (file_of content files.Database) reply
+IsReplyTo (commands.Check db) content reply = IsOfFile (commands.Check db) content (file_of content files.Database) reply
+IsReplyTo _ content reply = reply ≡ replies.NotBuilt

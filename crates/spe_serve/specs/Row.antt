@@ -1,0 +1,28 @@
+-- The rows of a table, as the payloads of its tree say them.
+use Rattle.std.specs.Prelude.{ℕ, ℤ, List, [], ◌∷◌, length, nat_le, Option, Some, None, Result, Ok, Err, if◌then◌else◌}
+use Rattle.std.specs.Result.{result_map_both}
+use Rattle.spe_model.specs.declared.value.Value.{Value}
+use Rattle.spe_model.specs.declared.table.TableDef.{TableDef}
+use Rattle.spe_model.specs.declared.record.RecordFault.{RecordFault}
+use Rattle.spe_model.specs.Database.{Row}
+use Rattle.spe_model.specs.Record.{record_of}
+use Rattle.spe_model.specs.Standing.{shown}
+
+-- a row by its record: nothing where that is damaged or has more fields than the table columns
+abbrev pub row_by : TableDef → ℤ → Result (List Value) RecordFault → Option Row
+row_by table rowid (Ok values) = if nat_le (length values) (length table.columns) then Some (rowid, shown table rowid values) else None
+row_by table rowid (Err fault) = None
+
+-- the row that is stored as this rowid and this payload
+abbrev pub row_of : TableDef → ℤ × List ℕ → Option Row
+row_of table stored = row_by table stored.0 (record_of stored.1)
+
+-- a row before others
+abbrev pub row_before : (rowid : ℤ) → Option Row → Result (List Row) ℤ → Result (List Row) ℤ
+row_before rowid None others = Err rowid
+row_before rowid (Some row) others = result_map_both (λ rows. row ∷ rows) (λ damaged. damaged) others
+
+-- the rows that are stored so, or the rowid of the first that is damaged or has too many fields
+abbrev pub rows_stored : TableDef → List (ℤ × List ℕ) → Result (List Row) ℤ
+rows_stored table [] = Ok []
+rows_stored table (x ∷ xs) = row_before x.0 (row_of table x) (rows_stored table xs)
