@@ -1,18 +1,28 @@
 // What the seats of a table know, as plain data. No value of these types is ever made: they stand in contracts and proofs alone.
 use std::collections::LinkedList;
 
+/// A page with its bytes.
+pub struct PageBytes {
+    pub page: u32,
+    pub bytes: LinkedList<u8>,
+}
+
 /// A commit, as the list of commits has it. Its place in the list is its number.
 pub struct CommitEntry<E> {
     pub log: E,
     // How many operations on the files had been made when it counted.
     pub ops: u64,
     pub session: u64,
+    // The pages that its pass had written.
+    pub written: LinkedList<PageBytes>,
 }
 
-/// A page with its bytes.
-pub struct PageBytes {
-    pub page: u32,
-    pub bytes: LinkedList<u8>,
+/// A commit at whose cut the store stopped, so that nobody knows whether it counts.
+pub struct StoppedCommit<E> {
+    pub log: E,
+    pub session: u64,
+    // The pages that its pass had written.
+    pub written: LinkedList<PageBytes>,
 }
 
 /// What a pass has read, journalled and written.
@@ -60,7 +70,7 @@ pub struct IdOut {
 /// Where a store stopped: the operation that failed, and the commit whose cut it was.
 pub struct StoreStop<E> {
     pub op: u64,
-    pub commit: Option<CommitEntry<E>>,
+    pub commit: Option<StoppedCommit<E>>,
 }
 
 /// What the seat of the store knows.
@@ -95,6 +105,8 @@ pub struct SessionPart<E> {
     pub floor: u64,
     pub faults: u64,
     pub stop: Option<u64>,
+    // Its commit at whose cut the store stopped.
+    pub stopped: Option<StoppedCommit<E>>,
     pub looks: u64,
     pub last: Look,
     pub conflicts: u64,
@@ -107,23 +119,22 @@ pub struct MakerPart {
     pub sessions: u64,
 }
 
-/// What one seat tells another.
+/// What one session tells another. It is a copy, so there may be any number of them.
 pub struct NotePart<E> {
     pub seen: LinkedList<CommitEntry<E>>,
+    // What the session that made the note had been told at most.
+    pub told: u64,
     pub floor: u64,
     pub faults: u64,
     pub stop: Option<u64>,
-    // What the session that made the note had been told at most; none where no session made it.
-    pub told: Option<u64>,
 }
 
-/// The parts that a seat has. A join puts the parts of two seats together and changes none.
+/// The parts that a seat has. A join puts the parts of two seats together and changes none. Who has
+/// the store's part has the turn.
 pub struct View<E> {
     pub id: Option<IdPart>,
     pub store: Option<StorePart<E>>,
     pub session: Option<SessionPart<E>>,
     pub maker: Option<MakerPart>,
     pub note: Option<NotePart<E>>,
-    // The mark of which one stands in all views.
-    pub turn: Option<()>,
 }

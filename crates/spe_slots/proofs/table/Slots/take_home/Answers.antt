@@ -1,0 +1,9 @@
+use Rattle.spe_slotrule.specs.Views.{session_part}
+use Rattle.spe_slotrule.proofs.Telling.{may_take_home, home_still}
+use Rattle.spe_slots.proofs.table.Slots.take_home.Goals as goal
+
+pub tell_session-requires-clause-told : goal.tell_session-requires-clause-told
+tell_session-requires-clause-told g c = may_take_home c.args.store.now.part (session_part c.session.inside.seat.me.0)
+
+pub tell_session-requires-clause-still : goal.tell_session-requires-clause-still
+tell_session-requires-clause-still g c = let p = session_part c.session.inside.seat.me.0 in home_still c.args.store.now.part p.number p.out
