@@ -1,15 +1,25 @@
-//! The program: the words of its command line, the real files and standard output, and the top call.
+//! The program: the words of its command line, the real files and standard output, and the top call;
+//! on standard error, what helps a person.
 #![tactic(auto)]
 
+mod messages;
+
+use crate::messages::{Asked, USAGE, VERSION, advice, header_fault};
 use spe_disk::{OpenGate, Sink, put_all};
 use spe_files::{FileDisk, FileScripts, OutSink};
 use spe_model::{Text, Words};
 use spe_serve::spe;
 use std::alloc::Global;
 use std::env::Env;
+use std::fs::File;
 use std::io::ErrorKind;
 use std::process::ExitCode;
+use std::rt::Files;
 use std::{env, io};
+
+const NO_COMMAND: u8 = 1;
+
+const REFUSED: u8 = 2;
 
 const FAULT: u8 = 3;
 
@@ -31,14 +41,70 @@ fn put_memory<W: Sink>(out: &mut W) -> u8 {
     }
 }
 
+// Tells what the words may be.
+fn tell_usage(rt: &impl Eprint, asked: Asked) -> io::Result<()> {
+    match asked {
+        Asked::Usage => eprintln!(rt; "{USAGE}"),
+        Asked::Version => eprintln!(rt; "{VERSION}"),
+    }
+}
+
+// Tells that there are no words, as the system did not give them.
+fn tell_no_words(rt: &impl Eprint) -> io::Result<()> {
+    eprintln!(rt; "spe: the system does not give the command line")
+}
+
+// Tells why the words were refused that this line answers.
+fn tell_refusal(rt: &impl Eprint, line: &[u8]) -> io::Result<()> {
+    if let Some(fault) = header_fault(line) {
+        eprintln!(rt; "spe: {fault}")?;
+    }
+    if let Some(text) = advice(line) {
+        eprintln!(rt; "spe: {text}")?;
+    }
+    Ok(())
+}
+
+// Tells what failed: the disk, or else standard output.
+fn tell_fault<R: Files<File = File>>(rt: &impl Eprint, disk: &FileDisk<'_, R>) -> io::Result<()> {
+    let Some(fault) = disk.first_fault() else {
+        return eprintln!(rt; "spe: standard output takes no more");
+    };
+    let path = disk.path(fault)?;
+    eprintln!(rt; "spe: {path}: {fault}")
+}
+
+// Tells on standard error what helps; standard output has the answer already.
+fn tell<R: Files<File = File>>(
+    rt: &impl Eprint,
+    status: u8,
+    asked: Asked,
+    line: &[u8],
+    disk: &FileDisk<'_, R>,
+) -> io::Result<()> {
+    match status {
+        NO_COMMAND => tell_usage(rt, asked),
+        REFUSED => tell_refusal(rt, line),
+        FAULT => tell_fault(rt, disk),
+        _ => Ok(()),
+    }
+}
+
 fn main(rt: HostRuntime) -> io::Result<ExitCode> {
     let mut out = OutSink::new(&rt);
     let words = match words_of(&rt) {
         Ok(words) => words,
         // Words that are no text are refused as no words are.
         Err(fault) if fault.kind() == ErrorKind::InvalidData => Words::new(Vec::new(rt.alloc())),
-        Err(_) => return Ok(ExitCode::from(put_memory(&mut out))),
+        Err(fault) if fault.kind() == ErrorKind::OutOfMemory => {
+            return Ok(ExitCode::from(put_memory(&mut out)));
+        }
+        Err(_) => {
+            let _ = tell_no_words(&rt);
+            return Ok(ExitCode::from(FAULT));
+        }
     };
+    let asked = Asked::of(&words);
     let (finished, disk) = spe(
         &rt,
         rt.alloc(),
@@ -48,6 +114,6 @@ fn main(rt: HostRuntime) -> io::Result<ExitCode> {
         &mut out,
         &OpenGate,
     );
-    let _ = disk;
+    let _ = tell(&rt, finished.status, asked, out.head(), &disk);
     Ok(ExitCode::from(finished.status))
 }

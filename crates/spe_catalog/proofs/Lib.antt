@@ -6,6 +6,6 @@ mod NamesLemmas
 mod DistinctLemmas
 mod TableLemmas
 mod ReadingLemmas
-mod LeafLemmas
 mod ReaderLemmas
 mod AsksLemmas
+pub mod StandingLemmas

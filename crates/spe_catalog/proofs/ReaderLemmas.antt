@@ -1,7 +1,9 @@
 -- The catalog of pages.
-use Rattle.std.proofs.Common.{◌≡◌, ◌⊎◌, inl, inr, ℕ, ℤ, ◌^◌, ◌<◌, Bool, true, false, not, ◌&&◌, ◌||◌, ◌==◌, nat_lt, List, [], ◌∷◌, ◌++◌, length, Option, Some, None, Result, Ok, Err, SomeIff, unwrap_or, refl, sym, ap, ◌∙◌, arith, append_assoc, subst}
-use Rattle.std.specs.List.{list_any}
+use Rattle.std.proofs.Common.{◌≡◌, ◌⊎◌, inl, inr, ℕ, ℤ, ◌^◌, ◌<◌, Bool, true, false, not, ◌&&◌, ◌||◌, ◌==◌, nat_lt, List, [], ◌∷◌, ◌++◌, length, map, Option, Some, None, Result, Ok, Err, SomeIff, unwrap_or, refl, sym, ap, ◌∙◌, arith, append_assoc, subst}
+use Rattle.std.specs.List.{Contains, list_any}
 use Rattle.std.proofs.lemmas.Bool.{false≢true}
+use Rattle.std.proofs.lemmas.List.{map-append}
+use Rattle.std.proofs.lemmas.List.Elements.{Contains-append_left, Contains-append_right}
 use Rattle.spe_model.specs.declared.catalog.Entry.{Entry}
 use Rattle.spe_model.specs.declared.table.TableDef.{TableDef}
 use Rattle.spe_model.specs.Agree.{agree}
@@ -15,11 +17,12 @@ use Rattle.spe_space.specs.declared.pages.Pages.{Ghosts}
 use Rattle.spe_space.specs.Found.{Answers}
 use Rattle.spe_space.specs.declared.fault.TreeFault.{TreeFault}
 use Rattle.spe_space.specs.declared.fault.TreeFault.TheVariants.{Space, Corrupt}
+use Rattle.spe_search.specs.declared.pairs.Pair.{Pair}
 use Rattle.spe_search.specs.Found.{HasCause}
+use Rattle.spe_search.specs.Leaves.{IsRead}
+use Rattle.spe_search.specs.Pairs.{pair_seen}
 use Rattle.spe_catalog.specs.Reading.{has_number, have_numbers, IsBad, unread, far, repeated, IsDamaged, AreRead, table_names}
-use Rattle.spe_catalog.specs.Leaf.{IsLeafFor, IsWayCause}
-use Rattle.spe_catalog.specs.Reader.{Pushes, tables_of, CatalogOrBad, HasSchemaCause, NamesLeaf}
-use Rattle.spe_catalog.proofs.LeafLemmas.{has_middle}
+use Rattle.spe_catalog.specs.Reader.{Pushes, tables_of, CatalogOrBad, HasSchemaCause}
 
 -- the root of a table, as its number
 pub root_told : (row : SchemaRow) (result : Option ℕ) → is_table_row row ≡ true → has_number row ≡ true → SomeIff result (root_of row.rootpage < 2 ^ 32) (root_of row.rootpage)
@@ -185,11 +188,11 @@ own_front first found others h =
     (rw (← (names_append (first ++ found ∷ []) others), append_assoc first (found ∷ []) others) h)
 
 -- rows that are in order have no row that is not
-pub damaged_not : (stored : List (ℤ × List ℕ)) (rowid : ℤ) (rows : List SchemaRow) → IsDamaged stored rowid → schema_of stored ≡ Some rows → have_own_names rows ≡ true
+bad_not : (first behind : List (ℤ × List ℕ)) (row : ℤ × List ℕ) (rows : List SchemaRow) → IsBad first row → schema_of (first ++ row ∷ behind) ≡ Some rows → have_own_names rows ≡ true
     → have_numbers rows ≡ true → ⊥
-damaged_not stored rowid rows d h own numbers = against (splits d.before d.behind d.row rows (rw d.split at h)) d.bad
+bad_not first behind row rows bad h own numbers = against (splits first behind row rows h) bad
   where
-    against : Splits d.before d.behind d.row rows → IsBad d.before d.row → ⊥
+    against : Splits first behind row rows → IsBad first row → ⊥
     against s (unread e) = absurd (no_row (sym e ∙ s.found_is))
       where
         no_row : None ≡ Some s.found → ⊥
@@ -202,24 +205,30 @@ damaged_not stored rowid rows d h own numbers = against (splits d.before d.behin
         let front : s.first ≡ before = (let both : Some s.first ≡ Some before = sym s.first_is ∙ b in cc) in
         false≢true (sym n ∙ (rw (← same, ← front) (own_front s.first s.found s.others (rw s.are at own))))
 
+pub split_seen : (stored before behind : List Pair) (row : Pair) → stored ≡ before ++ row ∷ behind → map pair_seen stored ≡ map pair_seen before ++ pair_seen row ∷ map pair_seen behind
+split_seen stored before behind row e = ap (λ (xs : List Pair). map pair_seen xs) e ∙ map-append pair_seen before (row ∷ behind)
+
+pub damaged_not : (stored : List Pair) (leaf : ℕ) (rows : List SchemaRow) → IsDamaged stored leaf → schema_of (map pair_seen stored) ≡ Some rows → have_own_names rows ≡ true
+    → have_numbers rows ≡ true → ⊥
+damaged_not stored leaf rows d h own numbers =
+    bad_not (map pair_seen d.before) (map pair_seen d.behind) (pair_seen d.row) rows d.bad (rw (split_seen stored d.before d.behind d.row d.split) at h) own numbers
+
 -- why the leaf of a row is called corrupt
-pub leaf_cause : (X : Type 0) (usable : ℕ) (pages : Paging) (rowid : ℤ) (at : ℕ) → ((height : ℕ) → IsTableTree usable pages height 1 → IsDamaged (tree_rows usable pages height 1) rowid)
-    → IsLeafFor usable pages 1 (rank rowid) 20 at ⊎ IsWayCause usable pages 1 20 at → HasSchemaCause {X = X} usable pages (Err (Corrupt at))
-leaf_cause X usable pages rowid at damaged (inl leaf) = inl (record {
-  depth = leaf.depth;
-  below = leaf.below;
-  bad = λ height tree. let d = damaged height tree in
-      record {
-        before = d.before;
-        row = d.row;
-        behind = d.behind;
-        split = d.split;
-        bad = d.bad;
-        leaf = leaf.rows height 0 18446744073709551616 tree.1 d.row (rw d.split (has_middle d.before d.row d.behind)) (ap rank d.rowid_is);
-      };
-})
-leaf_cause X usable pages rowid at damaged (inr (inl faulty)) = inr (inl faulty)
-leaf_cause X usable pages rowid at damaged (inr (inr below)) = inr (inr (inr below))
+pub row_cause : (X : Type 0) (usable : ℕ) (pages : Paging) (stored slice : List Pair) (leaf : ℕ) → slice ≡ stored
+    → ((row : Pair) → Contains stored row → IsRead usable pages 20 1 row)
+    → ((height : ℕ) → IsTableTree usable pages height 1 → map pair_seen stored ≡ tree_rows usable pages height 1)
+    → IsDamaged slice leaf → HasSchemaCause {X = X} usable pages (Err (Corrupt leaf))
+row_cause X usable pages stored slice leaf e read tree d =
+    let split : stored ≡ d.before ++ d.row ∷ d.behind = sym e ∙ d.split in
+    inl (record {
+      before = d.before;
+      row = d.row;
+      leaf_is = d.leaf_is;
+      read = read d.row (rw split (Contains-append_right d.before (d.row ∷ d.behind) d.row (0, omega arith, refl)));
+      others = λ other has. read other (rw split (Contains-append_left d.before (d.row ∷ d.behind) other has));
+      bad = d.bad;
+      stored = λ height grown. (map pair_seen d.behind, sym (tree height grown) ∙ split_seen stored d.before d.behind d.row split);
+    })
 
 pub rows_found : (pages : Paging) (stored tree : List (ℤ × List ℕ)) (rows slice : List SchemaRow) (result : Result (List Entry) TreeFault) → stored ≡ tree → slice ≡ rows
     → AreRead stored rows → (have_numbers slice ≡ true → Answers (λ c. c) (catalog_of (is_index_page pages) slice) result) → CatalogOrBad pages tree result
@@ -228,15 +237,5 @@ rows_found pages stored tree rows slice result e s read made =
     catalog_found pages tree rows result (subst (λ (xs : List (ℤ × List ℕ)). AreRead xs rows) e read)
     (subst (λ (xs : List SchemaRow). Answers (λ c. c) (catalog_of (is_index_page pages) xs) result) s (made numbers))
 
-pub fault_found : (pages : Paging) (stored tree : List (ℤ × List ℕ)) (rowid : ℤ) (fault : TreeFault) → stored ≡ tree → IsDamaged stored rowid → CatalogOrBad pages tree (Err fault)
-fault_found pages stored tree rowid (Space f) e d = tt
-fault_found pages stored tree rowid (Corrupt at) e d = λ rows h own numbers.
-    damaged_not tree rowid rows (subst (λ (xs : List (ℤ × List ℕ)). IsDamaged xs rowid) e d) h own numbers
-
-pub damage_named : {P : Type 0} (g : Ghosts P) (early mid late : P) (rowid raw : ℤ) (fault : TreeFault) (X : Type 0) → raw ≡ rowid → Reads g early mid → NamesLeaf g mid late raw fault
-    → (pages : Paging) → Agrees pages (g.seen late)
-    → ((height : ℕ) → IsTableTree (g.used early) (sight g early pages) height 1 → IsDamaged (tree_rows (g.used early) (sight g early pages) height 1) rowid)
-    → HasSchemaCause {X = X} (g.used early) (sight g early pages) (Err fault)
-damage_named g early mid late rowid raw (Space f) X e first named pages agrees d = tt
-damage_named g early mid late rowid raw (Corrupt at) X e first named pages agrees d =
-    leaf_cause X (g.used early) (sight g early pages) rowid at d (rw (first.used, first.laid, e) at (named pages agrees))
+pub fault_found : (pages : Paging) (stored : List Pair) (tree : List (ℤ × List ℕ)) (leaf : ℕ) → map pair_seen stored ≡ tree → IsDamaged stored leaf → CatalogOrBad pages tree (Err (Corrupt leaf))
+fault_found pages stored tree leaf e d = λ rows h own numbers. damaged_not stored leaf rows d (subst (λ (xs : List (ℤ × List ℕ)). schema_of xs ≡ Some rows) (sym e) h) own numbers

@@ -1,12 +1,14 @@
 -- The rows of a schema table, read one after the other.
-use Rattle.std.proofs.Common.{◌≡◌, ℕ, ℤ, ◌-◌, ◌≤◌, Bool, true, false, not, ◌&&◌, ◌||◌, List, [], ◌∷◌, ◌++◌, length, take, drop, get_or, Option, Some, None, refl, sym, ap, ◌∙◌, arith, append_assoc}
+use Rattle.std.proofs.Common.{◌≡◌, ℕ, ℤ, ◌-◌, ◌≤◌, Bool, true, false, not, ◌&&◌, ◌||◌, List, [], ◌∷◌, ◌++◌, length, take, drop, get_or, map, Option, Some, None, refl, sym, ap, ◌∙◌, arith, append_assoc}
 use Rattle.std.specs.List.{list_any, list_all}
-use Rattle.std.proofs.lemmas.List.{take_all}
+use Rattle.std.proofs.lemmas.List.{map-append, take_all}
 use Rattle.std.proofs.lemmas.Bool.{false≢true}
 use Rattle.spe_model.specs.Agree.{agree}
 use Rattle.spe_model.specs.Cell.{◌>>=◌}
 use Rattle.spe_model.specs.Definition.{are_distinct}
 use Rattle.spe_model.specs.Schema.{SchemaRow, schema_row_of, schema_of, is_table_row, have_own_names}
+use Rattle.spe_search.specs.declared.pairs.Pair.{Pair}
+use Rattle.spe_search.specs.Pairs.{pair_seen}
 use Rattle.spe_catalog.specs.Names.{has_name}
 use Rattle.spe_catalog.specs.Reading.{has_number, have_numbers, IsBad, unread, far, repeated, IsDamaged, AreRead, JoinsNames, Joins, Clashes, too_far, taken, table_names, IsReading}
 
@@ -92,12 +94,12 @@ or_flip false true = refl
 or_flip false false = refl
 
 -- one more row that is in order
-pub reading_more : (stored left behind : List (ℤ × List ℕ)) (row : ℤ × List ℕ) (rows more : List SchemaRow) (old new : List (List ℕ)) (found : SchemaRow)
-    → left ≡ row ∷ behind → more ≡ rows ++ found ∷ [] → IsReading stored left rows old → schema_row_of row ≡ Some found → JoinsNames found old new → IsReading stored behind more new
+pub reading_more : (stored left behind : List Pair) (row : Pair) (rows more : List SchemaRow) (old new : List (List ℕ)) (found : SchemaRow)
+    → left ≡ row ∷ behind → more ≡ rows ++ found ∷ [] → IsReading stored left rows old → schema_row_of (pair_seen row) ≡ Some found → JoinsNames found old new → IsReading stored behind more new
 reading_more stored left behind row rows more old new found l m reading r joins = rw m (record {
   done = reading.done ++ row ∷ [];
   split = reading.split ∙ rw l (sym (append_assoc reading.done (row ∷ []) behind));
-  rows_are = schema_push reading.done row rows found reading.rows_are r;
+  rows_are = rw (map-append pair_seen reading.done (row ∷ [])) (schema_push (map pair_seen reading.done) (pair_seen row) rows found reading.rows_are r);
   own = (case (is_table_row found) refl).0;
   numbers = numbers_push rows found reading.numbers joins.number;
   has = (case (is_table_row found) refl).1;
@@ -115,46 +117,46 @@ reading_more stored left behind row rows more old new found l m reading r joins 
       λ other. rw (joins.names other, names_stay rows found t, t) (reading.has other),
     )
 
-pub reading_unread : (stored left behind : List (ℤ × List ℕ)) (row : ℤ × List ℕ) (rows : List SchemaRow) (names : List (List ℕ))
-    → left ≡ row ∷ behind → IsReading stored left rows names → schema_row_of row ≡ None → IsDamaged stored row.0
+pub reading_unread : (stored left behind : List Pair) (row : Pair) (rows : List SchemaRow) (names : List (List ℕ))
+    → left ≡ row ∷ behind → IsReading stored left rows names → schema_row_of (pair_seen row) ≡ None → IsDamaged stored row.leaf
 reading_unread stored left behind row rows names l reading r = record {
   before = reading.done;
   row = row;
   behind = behind;
   split = reading.split ∙ rw l refl;
-  rowid_is = refl;
+  leaf_is = refl;
   bad = unread r;
 }
 
-pub reading_clash : (stored left behind : List (ℤ × List ℕ)) (row : ℤ × List ℕ) (rows : List SchemaRow) (names : List (List ℕ)) (found : SchemaRow)
-    → left ≡ row ∷ behind → IsReading stored left rows names → schema_row_of row ≡ Some found → Clashes found names → IsDamaged stored row.0
+pub reading_clash : (stored left behind : List Pair) (row : Pair) (rows : List SchemaRow) (names : List (List ℕ)) (found : SchemaRow)
+    → left ≡ row ∷ behind → IsReading stored left rows names → schema_row_of (pair_seen row) ≡ Some found → Clashes found names → IsDamaged stored row.leaf
 reading_clash stored left behind row rows names found l reading r clashes = record {
   before = reading.done;
   row = row;
   behind = behind;
   split = reading.split ∙ rw l refl;
-  rowid_is = refl;
+  leaf_is = refl;
   bad = why clashes;
 }
   where
-    why : Clashes found names → IsBad reading.done row
+    why : Clashes found names → IsBad (map pair_seen reading.done) (pair_seen row)
     why (too_far f) = far found r f
     why (taken t h) =
         repeated rows found reading.rows_are r
         (rw (names_push rows found t, distinct_push (table_names rows) found.name, reading.own, ← (reading.has found.name), h) refl)
 
-pub reading_end : (stored left : List (ℤ × List ℕ)) (rows : List SchemaRow) (names : List (List ℕ)) → left ≡ [] → IsReading stored left rows names → AreRead stored rows
+pub reading_end : (stored left : List Pair) (rows : List SchemaRow) (names : List (List ℕ)) → left ≡ [] → IsReading stored left rows names → AreRead (map pair_seen stored) rows
 reading_end stored left rows names e reading = record {
-  rows_are = (let all : stored ≡ reading.done = reading.split ∙ (ap (λ (xs : List (ℤ × List ℕ)). reading.done ++ xs) e ∙ append_none reading.done) in rw all reading.rows_are);
+  rows_are = (let all : stored ≡ reading.done = reading.split ∙ (ap (λ (xs : List Pair). reading.done ++ xs) e ∙ append_none reading.done) in rw all reading.rows_are);
   own = reading.own;
   numbers = reading.numbers;
 }
   where
-    append_none : (xs : List (ℤ × List ℕ)) → xs ++ [] ≡ xs
+    append_none : (xs : List Pair) → xs ++ [] ≡ xs
     append_none [] = refl
-    append_none (x ∷ xs) = ap (λ (ys : List (ℤ × List ℕ)). x ∷ ys) (append_none xs)
+    append_none (x ∷ xs) = ap (λ (ys : List Pair). x ∷ ys) (append_none xs)
 
-pub reading_first : (stored : List (ℤ × List ℕ)) (names : List (List ℕ)) → ((other : List ℕ) → has_name names other ≡ false) → IsReading stored stored [] names
+pub reading_first : (stored : List Pair) (names : List (List ℕ)) → ((other : List ℕ) → has_name names other ≡ false) → IsReading stored stored [] names
 reading_first stored names none = record { done = []; split = refl; rows_are = refl; own = refl; numbers = refl; has = none }
 
 pub joins_yes : (row : SchemaRow) (old new : List (List ℕ)) (flag : Bool) → flag ≡ true → Joins row old new flag → JoinsNames row old new

@@ -3,13 +3,16 @@
 use Rattle.std.specs.Prelude.{◌≡◌, ◌⊎◌, ℕ, ◌<◌, true, List, Result, IfErr}
 use Rattle.std.specs.List.{Contains}
 use Rattle.spe_model.specs.Paging.{Paging, Agrees}
-use Rattle.spe_model.specs.Tree.{IsTree, IsTableTree, tree_rows, tree_pages}
+use Rattle.spe_model.specs.Database.{Database}
+use Rattle.spe_model.specs.Standing.{StandsFor}
+use Rattle.spe_model.specs.Tree.{IsTableTree, tree_rows, tree_pages}
 use Rattle.spe_model.specs.Schema.{SchemaRow, is_table_row, root_of}
 use Rattle.spe_space.specs.Calls.{sight}
 use Rattle.spe_space.specs.Found.{OnMissing}
 use Rattle.spe_space.specs.declared.pages.Pages.{Ghosts}
 use Rattle.spe_space.specs.declared.fault.TreeFault.{TreeFault}
-use Rattle.spe_search.specs.Range.{touched_pages, IsOverflowBetween}
+use Rattle.spe_space.specs.Outcome.{IsInside}
+use Rattle.spe_search.specs.Range.{IsOverflowBetween}
 use Rattle.spe_catalog.specs.Reading.{AreRead}
 
 -- each page that is given for the first time is such a one
@@ -19,17 +22,6 @@ AddsOnly g early late What = (n : ℕ) → (g.seen late n ≡ g.seen early n) �
 -- a page that is asked for and is none of the space's is such a one
 abbrev pub MissesOnly : {X : Type 0} → Result X TreeFault → (ℕ → Type 0) → Type 0
 MissesOnly result What = IfErr result (OnMissing What)
-
--- where a tree stands under the page, its pages that a rowid of this rank touches
-abbrev pub AddsOnWay : {P : Type 0} (g : Ghosts P) (early late : P) (page key : ℕ) → Type 0
-AddsOnWay g early late page key =
-    (pages : Paging) → Agrees pages (g.seen late) → (height a b : ℕ) → IsTree (g.used early) (sight g early pages) height a b page
-    → AddsOnly g early late (Contains (touched_pages (g.used early) (sight g early pages) key key height page))
-
-abbrev pub MissesOnWay : {P X : Type 0} (g : Ghosts P) (early late : P) (page key : ℕ) (result : Result X TreeFault) → Type 0
-MissesOnWay g early late page key result =
-    (pages : Paging) → Agrees pages (g.seen late) → (height a b : ℕ) → IsTree (g.used early) (sight g early pages) height a b page
-    → MissesOnly result (Contains (touched_pages (g.used early) (sight g early pages) key key height page))
 
 -- the page of a row's root, where it has one
 abbrev pub IsRootOf : SchemaRow → ℕ → Type 0
@@ -71,3 +63,9 @@ abbrev pub MissesOfCatalog : {P X : Type 0} (g : Ghosts P) (early late : P) (res
 MissesOfCatalog g early late result =
     (pages : Paging) → Agrees pages (g.seen late) → (height : ℕ) → IsTableTree (g.used early) (sight g early pages) height 1
     → MissesOnly result (IsCatalogMiss (g.used early) (sight g early pages) height)
+
+-- where the pages stand for a database, a page that is asked for and is none of the space's is one of these pages
+abbrev pub MissesStanding : {P X : Type 0} (g : Ghosts P) (early late : P) (result : Result X TreeFault) → Type 0
+MissesStanding g early late result =
+    (pages : Paging) → Agrees pages (g.seen late) → (count : ℕ) (db : Database) → StandsFor (g.used early) count (sight g early pages) db
+    → MissesOnly result (IsInside count)

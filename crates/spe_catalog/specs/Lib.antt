@@ -6,6 +6,5 @@ pub mod Row
 pub mod Table
 pub mod Names
 pub mod Reading
-pub mod Leaf
 pub mod Reader
 pub mod Asks

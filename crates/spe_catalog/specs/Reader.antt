@@ -1,19 +1,22 @@
 -- The catalog of pages, whatever the pages below a space are, as long as they agree with all that was given.
-use Rattle.std.specs.Prelude.{◌≡◌, ◌⊎◌, ℕ, zero, ℤ, Bool, true, not, ◌==◌, ◌&&◌, List, [], ◌∷◌, ◌++◌, map, Some, Result, Ok, Err, filter}
+use Rattle.std.specs.Prelude.{◌≡◌, ◌⊎◌, ℕ, ℤ, Bool, true, not, ◌==◌, ◌&&◌, List, [], ◌∷◌, ◌++◌, map, Some, Result, Ok, Err, filter}
+use Rattle.std.specs.List.{Contains}
 use Rattle.spe_model.specs.declared.catalog.Entry.{Entry}
 use Rattle.spe_model.specs.Paging.{Paging, Agrees}
-use Rattle.spe_model.specs.Tree.{rank, IsTableTree, tree_rows}
+use Rattle.spe_model.specs.Tree.{IsTableTree, tree_rows}
 use Rattle.spe_model.specs.Schema.{SchemaRow, schema_of, is_table_row, is_index_page, entry_of, catalog_of, have_own_names}
 use Rattle.spe_space.specs.Calls.{sight}
 use Rattle.spe_space.specs.Found.{Answers}
 use Rattle.spe_space.specs.declared.pages.Pages.{Ghosts}
 use Rattle.spe_space.specs.declared.fault.TreeFault.{TreeFault}
 use Rattle.spe_space.specs.declared.fault.TreeFault.TheVariants.{Space, Corrupt}
-use Rattle.spe_search.specs.Found.{HasCause, IsBelow}
+use Rattle.spe_search.specs.declared.pairs.Pair.{Pair}
+use Rattle.spe_search.specs.Found.{HasCause}
+use Rattle.spe_search.specs.Leaves.{IsRead}
+use Rattle.spe_search.specs.Pairs.{pair_seen}
 use Rattle.spe_catalog.specs.declared.table.Attached.{Attached}
 use Rattle.spe_catalog.specs.Table.{Attaches}
 use Rattle.spe_catalog.specs.Reading.{has_number, have_numbers, IsBad}
-use Rattle.spe_catalog.specs.Leaf.{Has, IsLeafFor, IsWayCause}
 
 abbrev pub TellsKind : {P : Type 0} (g : Ghosts P) (early late : P) (page : ℕ) (result : Result Bool TreeFault) → Type 0
 TellsKind g early late page result = (pages : Paging) → Agrees pages (g.seen late) → Answers (λ b. b) (is_index_page (sight g early pages) page) result
@@ -56,13 +59,6 @@ abbrev pub MakesCatalog : {P : Type 0} (g : Ghosts P) (early late : P) (rows : L
 MakesCatalog g early late rows result =
     (pages : Paging) → Agrees pages (g.seen late) → have_numbers rows ≡ true → Answers (λ c. c) (catalog_of (is_index_page (sight g early pages)) rows) result
 
--- Corrupt names the leaf of the row, or a page with a cause of its own
-abbrev pub NamesLeaf : {P : Type 0} (g : Ghosts P) (early late : P) (rowid : ℤ) → TreeFault → Type 0
-NamesLeaf g early late rowid (Space f) = Unit {0}
-NamesLeaf g early late rowid (Corrupt at) =
-    (pages : Paging) → Agrees pages (g.seen late)
-    → IsLeafFor (g.used early) (sight g early pages) 1 (rank rowid) 20 at ⊎ IsWayCause (g.used early) (sight g early pages) 1 20 at
-
 -- the catalog of rows that are in order
 pub record IsCatalog (pages : Paging) (stored : List (ℤ × List ℕ)) (catalog : List Entry) : Type 0 where
   pub rows : List SchemaRow
@@ -83,26 +79,23 @@ FindsCatalog g early late result =
     → (height : ℕ) → IsTableTree (g.used early) (sight g early pages) height 1
     → CatalogOrBad (sight g early pages) (tree_rows (g.used early) (sight g early pages) height 1) result
 
--- a leaf has a row of the schema that may not stand behind those before it
-pub record HasBadRow (usable : ℕ) (pages : Paging) (height at : ℕ) : Type 0 where
-  pub before : List (ℤ × List ℕ)
-  pub row : ℤ × List ℕ
-  pub behind : List (ℤ × List ℕ)
-  pub split : tree_rows usable pages height 1 ≡ before ++ row ∷ behind
-  pub bad : IsBad before row
-  pub leaf : Has (tree_rows usable pages zero at) row
-
--- a page of the schema's tree that is the leaf of a bad row, where that tree stands
-pub record IsBadLeaf (usable : ℕ) (pages : Paging) (at : ℕ) : Type 0 where
-  pub depth : ℕ
-  pub below : IsBelow usable pages depth 1 at
-  pub bad : (height : ℕ) → IsTableTree usable pages height 1 → HasBadRow usable pages height at
+-- a row of the schema, as the leaf of this number shows it, may not stand behind others, each of which a leaf shows; where the
+-- schema's tree stands, these are the rows before it
+pub record HasBadRow (usable : ℕ) (pages : Paging) (at : ℕ) : Type 0 where
+  pub before : List Pair
+  pub row : Pair
+  pub leaf_is : row.leaf ≡ at
+  pub read : IsRead usable pages 20 1 row
+  pub others : (other : Pair) → Contains before other → IsRead usable pages 20 1 other
+  pub bad : IsBad (map pair_seen before) (pair_seen row)
+  pub stored : (height : ℕ) → IsTableTree usable pages height 1
+      → (behind : List (ℤ × List ℕ)) × (tree_rows usable pages height 1 ≡ map pair_seen before ++ pair_seen row ∷ behind)
 
 abbrev pub HasSchemaCause : {X : Type 0} (usable : ℕ) (pages : Paging) → Result X TreeFault → Type 0
 HasSchemaCause usable pages (Ok x) = Unit {0}
 HasSchemaCause usable pages (Err (Space f)) = Unit {0}
-HasSchemaCause {X} usable pages (Err (Corrupt at)) = IsBadLeaf usable pages at ⊎ HasCause {X = X} usable pages 1 20 (Err (Corrupt at))
+HasSchemaCause {X} usable pages (Err (Corrupt at)) = HasBadRow usable pages at ⊎ HasCause {X = X} usable pages 1 20 (Err (Corrupt at))
 
--- Corrupt comes only for such a leaf, or as of a walk over the schema's tree
+-- Corrupt comes only for the leaf of such a row, or as of a walk over the schema's tree
 abbrev pub NamesSchema : {P X : Type 0} (g : Ghosts P) (early late : P) (result : Result X TreeFault) → Type 0
 NamesSchema g early late result = (pages : Paging) → Agrees pages (g.seen late) → HasSchemaCause (g.used early) (sight g early pages) result

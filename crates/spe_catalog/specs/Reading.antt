@@ -4,6 +4,8 @@ use Rattle.std.specs.List.{list_any, list_all}
 use Rattle.spe_model.specs.Agree.{agree}
 use Rattle.spe_model.specs.Schema.{SchemaRow, schema_row_of, schema_of, is_table_row, root_of, have_own_names}
 use Rattle.spe_catalog.specs.Names.{has_name}
+use Rattle.spe_search.specs.declared.pairs.Pair.{Pair}
+use Rattle.spe_search.specs.Pairs.{pair_seen}
 use Rattle.spe_catalog.specs.declared.reading.Reading.{Reading}
 use Rattle.spe_catalog.specs.declared.reading.Reading.TheVariants.{Rows, Damage}
 
@@ -22,14 +24,14 @@ pub data IsBad (before : List (ℤ × List ℕ)) (row : ℤ × List ℕ) : Type 
   repeated : (rows : List SchemaRow) (found : SchemaRow) → schema_of before ≡ Some rows → schema_row_of row ≡ Some found
       → have_own_names (rows ++ found ∷ []) ≡ false → IsBad before row
 
--- a row with this rowid may not stand behind those before it
-pub record IsDamaged (stored : List (ℤ × List ℕ)) (rowid : ℤ) : Type 0 where
-  pub before : List (ℤ × List ℕ)
-  pub row : ℤ × List ℕ
-  pub behind : List (ℤ × List ℕ)
+-- a row that was read from this leaf may not stand behind those before it
+pub record IsDamaged (stored : List Pair) (leaf : ℕ) : Type 0 where
+  pub before : List Pair
+  pub row : Pair
+  pub behind : List Pair
   pub split : stored ≡ before ++ row ∷ behind
-  pub rowid_is : row.0 ≡ rowid
-  pub bad : IsBad before row
+  pub leaf_is : row.leaf ≡ leaf
+  pub bad : IsBad (map pair_seen before) (pair_seen row)
 
 -- all rows are in order
 pub record AreRead (stored : List (ℤ × List ℕ)) (rows : List SchemaRow) : Type 0 where
@@ -37,9 +39,10 @@ pub record AreRead (stored : List (ℤ × List ℕ)) (rows : List SchemaRow) : T
   pub own : have_own_names rows ≡ true
   pub numbers : have_numbers rows ≡ true
 
-abbrev pub Reads : List (ℤ × List ℕ) → Reading → Type 0
-Reads stored (Rows rows) = AreRead stored rows.items
-Reads stored (Damage rowid) = IsDamaged stored rowid
+-- what rows say
+abbrev pub Tells : List Pair → Reading → Type 0
+Tells stored (Rows rows) = AreRead (map pair_seen stored) rows.items
+Tells stored (Damage leaf) = IsDamaged stored leaf
 
 -- a row that is in order behind others adds its name to those of their tables
 pub record JoinsNames (row : SchemaRow) (old new : List (List ℕ)) : Type 0 where
@@ -60,10 +63,10 @@ abbrev pub table_names : List SchemaRow → List (List ℕ)
 table_names rows = map (λ (row : SchemaRow). row.name) (filter is_table_row rows)
 
 -- in a loop over the rows: those up to here are in order
-pub record IsReading (stored left : List (ℤ × List ℕ)) (rows : List SchemaRow) (names : List (List ℕ)) : Type 0 where
-  pub done : List (ℤ × List ℕ)
+pub record IsReading (stored left : List Pair) (rows : List SchemaRow) (names : List (List ℕ)) : Type 0 where
+  pub done : List Pair
   pub split : stored ≡ done ++ left
-  pub rows_are : schema_of done ≡ Some rows
+  pub rows_are : schema_of (map pair_seen done) ≡ Some rows
   pub own : have_own_names rows ≡ true
   pub numbers : have_numbers rows ≡ true
   pub has : (other : List ℕ) → has_name names other ≡ list_any (λ name. agree name other) (table_names rows)

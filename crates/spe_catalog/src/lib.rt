@@ -10,7 +10,6 @@ mod affinity;
 mod column;
 mod constraint;
 mod definitions;
-mod leaves;
 mod left;
 mod lengths;
 mod miss;
@@ -22,7 +21,6 @@ mod table;
 mod words;
 
 pub use definitions::definition;
-pub use leaves::leaf;
 pub use names::NameSet;
 pub use reader::read_catalog;
 pub use schema::{SchemaRow, schema_row};

@@ -1,19 +1,18 @@
 //! The catalog of pages.
 
-ghost use Rattle.std.specs.Prelude.{◌≡◌, ◌≢◌, ◌<◌, ℕ, ◌∷◌, [], Err, None, length};
+ghost use Rattle.std.specs.Prelude.{◌≡◌, ◌≢◌, ◌<◌, ◌⊎◌, ℕ, ◌∷◌, [], None, length};
 ghost use Rattle.spe_space.specs.Calls.{Reads, RefusesTree};
 ghost use Rattle.spe_model.specs.Schema.{is_index_kind};
 ghost use Rattle.spe_model.specs.Kind.{kind_of};
-ghost use Rattle.spe_model.specs.Tree.{rank};
-ghost use Rattle.spe_catalog.specs.Reader.{TellsKind, TellsRoot, MakesEntry, PushesEntry, MakesEntries, MakesCatalog, FindsCatalog, NamesSchema, NamesLeaf};
-ghost use Rattle.spe_catalog.specs.Asks.{AddsOnly, MissesOnly, AddsOnWay, MissesOnWay, IsRootOf, IsRootIn, AddsOfCatalog, MissesOfCatalog};
+ghost use Rattle.spe_model.specs.Tree.{header_end};
+ghost use Rattle.spe_catalog.specs.Reader.{TellsKind, TellsRoot, MakesEntry, PushesEntry, MakesEntries, MakesCatalog, FindsCatalog, NamesSchema};
+ghost use Rattle.spe_catalog.specs.Asks.{AddsOnly, MissesOnly, MissesStanding, IsRootOf, IsRootIn, AddsOfCatalog, MissesOfCatalog};
 
-use crate::leaves::{header_of, leaf};
 use crate::reading::{Reading, read_rows};
 use crate::schema::SchemaRow;
 use crate::table::{Attached, table_of};
 use spe_model::{Catalog, Entry};
-use spe_search::range;
+use spe_search::range_with_leaves;
 use spe_space::{Pages, TreeFault};
 use std::alloc::Global;
 
@@ -23,6 +22,14 @@ fn is_index_byte(byte: u8) -> bool
     ensures { result ≡ is_index_kind (kind_of byte) }
 {
     matches!(byte, 2 | 10)
+}
+
+// Where the header of a page begins: page 1 begins with that of the file.
+fn header_of(page: u32) -> usize
+    ensures value { result ≡ header_end page }
+    ensures either { (result ≡ 0) ⊎ (result ≡ 100) }
+{
+    if page == 1 { 100 } else { 0 }
 }
 
 // Gets a page, and says whether it is one of an index.
@@ -154,30 +161,8 @@ fn catalog_of<S: Pages>(
     }
 }
 
-// Corrupt of the leaf of a row of the schema.
-fn damage<S: Pages>(alloc: Global, space: &mut S, rowid: i64) -> TreeFault
-    requires { S.Pages.refusal space.old ≡ None }
-    ensures named { NamesLeaf S.Pages space.old space.new rowid result }
-    ensures adds { AddsOnWay S.Pages space.old space.new 1 (rank rowid) }
-    ensures page_out { MissesOnWay {X = ℕ} S.Pages space.old space.new 1 (rank rowid) (Err result) }
-    ensures kept { Reads S.Pages space.old space.new }
-    ensures refusal { RefusesTree {X = ℕ} S.Pages space.old space.new (Err result) }
-{
-    match leaf(alloc, space, 1, rowid) {
-        Ok(page) => TreeFault::Corrupt { page },
-        Err(fault) => fault,
-    }
-}
-
-/// The tables that the schema of the pages names, open and closed, in the order of their rows.
-///
-/// Each page of the schema's tree is got once, and then the root page of each table. Corrupt is as of
-/// `range`, or names the leaf of a schema row whose record is no schema record, whose name is that of a
-/// table before it, or whose root page has a number past 32 bits; to find that leaf one page is got a
-/// level. Where the schema's tree stands, PageOut names one of its pages, an overflow page of one of its
-/// rows, or, where all rows are in order, the root page of a table. ("Storage Of The SQL Database Schema"
-/// in SQLite's Database File Format; which tables are open is this project's own.)
-pub fn read_catalog<S: Pages>(alloc: Global, space: &mut S) -> Result<Catalog, TreeFault>
+// The catalog, as `read_catalog` has it.
+fn catalog_in<S: Pages>(alloc: Global, space: &mut S) -> Result<Catalog, TreeFault>
     requires { S.Pages.refusal space.old ≡ None }
     ensures found { FindsCatalog S.Pages space.old space.new result }
     ensures damage { NamesSchema S.Pages space.old space.new result }
@@ -186,12 +171,33 @@ pub fn read_catalog<S: Pages>(alloc: Global, space: &mut S) -> Result<Catalog, T
     ensures kept { Reads S.Pages space.old space.new }
     ensures refusal { RefusesTree S.Pages space.old space.new result }
 {
-    let pairs = match range(alloc, space, 1, i64::MIN, i64::MAX) {
+    let pairs = match range_with_leaves(alloc, space, 1, i64::MIN, i64::MAX) {
         Ok(pairs) => pairs,
         Err(fault) => return Err(fault),
     };
     match read_rows(alloc, pairs.as_slice())? {
         Reading::Rows(rows) => catalog_of(alloc, space, rows.as_slice()),
-        Reading::Damage(rowid) => Err(damage(alloc, space, rowid)),
+        Reading::Damage(leaf) => Err(TreeFault::Corrupt { page: leaf }),
     }
+}
+
+/// The tables that the schema of the pages names, open and closed, in the order of their rows.
+///
+/// Each page of the schema's tree is got once, and then the root page of each table. Corrupt is as of
+/// `range`, or names the leaf that a schema row was read from whose record is no schema record, whose
+/// name is that of a table before it, or whose root page has a number past 32 bits. Where the schema's
+/// tree stands, PageOut names one of its pages, an overflow page of one of its rows, or, where all rows
+/// are in order, the root page of a table. ("Storage Of The SQL Database Schema" in SQLite's Database
+/// File Format; which tables are open is this project's own.)
+pub fn read_catalog<S: Pages>(alloc: Global, space: &mut S) -> Result<Catalog, TreeFault>
+    requires { S.Pages.refusal space.old ≡ None }
+    ensures found { FindsCatalog S.Pages space.old space.new result }
+    ensures damage { NamesSchema S.Pages space.old space.new result }
+    ensures adds { AddsOfCatalog S.Pages space.old space.new }
+    ensures page_out { MissesOfCatalog S.Pages space.old space.new result }
+    ensures inside { MissesStanding S.Pages space.old space.new result }
+    ensures kept { Reads S.Pages space.old space.new }
+    ensures refusal { RefusesTree S.Pages space.old space.new result }
+{
+    catalog_in(alloc, space)
 }

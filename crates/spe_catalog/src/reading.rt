@@ -1,9 +1,9 @@
 //! The rows of the schema table, read one after the other.
 
-ghost use Rattle.std.specs.Prelude.{◌≡◌, IfOk, map};
+ghost use Rattle.std.specs.Prelude.{◌≡◌, IfOk};
 ghost use Rattle.spe_model.specs.Schema.{schema_row_of};
 ghost use Rattle.spe_search.specs.Pairs.{pair_seen};
-ghost use Rattle.spe_catalog.specs.Reading.{Joins, Reads};
+ghost use Rattle.spe_catalog.specs.Reading.{Joins, Tells};
 ghost use Rattle.spe_catalog.specs.declared.reading.Reading.TheVariants.{Damage};
 
 use crate::names::NameSet;
@@ -16,9 +16,9 @@ use std::alloc::{AllocError, Global};
 pub enum Reading {
     /// All rows, which are in order.
     Rows(Vec<SchemaRow>),
-    /// The rowid of the first that is not: its record is no schema record, its name is that of a table
+    /// The leaf of the first that is not: its record is no schema record, its name is that of a table
     /// before it, or its root page has a number past 32 bits.
-    Damage(i64),
+    Damage(u32),
 }
 
 // Whether a row may stand behind others, the names of whose tables it joins.
@@ -42,14 +42,14 @@ fn row_of(alloc: Global, pair: &Pair) -> Result<Option<SchemaRow>, AllocError>
 }
 
 fn damage_at(pair: &Pair) -> Reading
-    ensures { result ≡ Damage pair.now.rowid }
+    ensures { result ≡ Damage pair.now.leaf }
 {
-    Reading::Damage(pair.rowid)
+    Reading::Damage(pair.leaf)
 }
 
 /// What these rows say.
 pub fn read_rows(alloc: Global, pairs: &[Pair]) -> Result<Reading, AllocError>
-    ensures { IfOk result (Reads (map pair_seen pairs.now)) }
+    ensures { IfOk result (Tells pairs.now) }
 {
     let mut names = NameSet::new(alloc);
     let mut rows = Vec::new(alloc);

@@ -6,12 +6,12 @@ use Rattle.spe_model.specs.Paging.{Paging}
 use Rattle.spe_model.specs.Chain.{links, links_bytes, chain_bytes, next_page}
 use Rattle.std.specs.Prelude.{Result, Ok, Err, OnOk, ◌==◌}
 use Rattle.spe_model.specs.Walk.{Keeps, chain_marks}
-use Rattle.spe_check.specs.declared.stop.Stop.{Stop}
+use Rattle.spe_check.specs.declared.halt.Halt.{Halt}
 use Rattle.spe_check.specs.declared.met.Met.{Met}
 use Rattle.spe_check.specs.MetPages.{has_met}
 use Rattle.spe_check.specs.Chains.{IsAlong, kept_of, link_marks}
 use Rattle.spe_check.specs.Tries.{Leads, Tries}
-use Rattle.spe_check.proofs.TriesLemmas.{leads_try, leads_stop, leads_last, the_ok, the_err}
+use Rattle.spe_check.proofs.TriesLemmas.{leads_try, leads_halt, leads_last, the_ok, the_err}
 
 div_small : (n r : ℕ) → n < r → n / r ≡ 0
 div_small n r less = let below = div_below n r 1 (omega (arith, less)) (omega (arith, less)) in omega (arith, below)
@@ -79,7 +79,7 @@ along_next usable pages before now later holder first bytes wanted old new newer
     subst S fewer (subst (R (left - (usable - 4))) (sym is) (record { tried = led; kept = kept }))
 
 -- the chain ends where no byte is left
-pub along_end : (usable : ℕ) (pages : Paging) (before now : Met) (holder first bytes : ℕ) (wanted : Bool) (old new : List ℕ) (at page left : ℕ) (r : Result (Unit {0}) Stop)
+pub along_end : (usable : ℕ) (pages : Paging) (before now : Met) (holder first bytes : ℕ) (wanted : Bool) (old new : List ℕ) (at page left : ℕ) (r : Result (Unit {0}) Halt)
     → 4 < usable → left ≤ 0 → now.pages ≡ before.pages → IsAlong usable pages before now holder first bytes wanted old new at page left
     → Tries now.pages (has_met now) (has_met now) (Keeps at 7 (page == 0) ∷ []) r
     → Tries before.pages (has_met before) (has_met now) (chain_marks pages (links usable bytes) holder first) r
@@ -97,17 +97,17 @@ along_end usable pages before now holder first bytes wanted old new at page left
     none_kept true new = sym (append-nil new)
     none_kept false new = refl
 
-    on_ok : {A : Type 0} (r : Result (Unit {0}) Stop) → A → OnOk r A
+    on_ok : {A : Type 0} (r : Result (Unit {0}) Halt) → A → OnOk r A
     on_ok (Ok x) a = a
-    on_ok (Err stop) a = tt
+    on_ok (Err halt) a = tt
 
 -- a page breaks the chain
-pub along_stop : (usable : ℕ) (pages : Paging) (before now later : Met) (holder first bytes : ℕ) (wanted : Bool) (old new : List ℕ) (at page left : ℕ) (stop : Stop)
+pub along_halt : (usable : ℕ) (pages : Paging) (before now later : Met) (holder first bytes : ℕ) (wanted : Bool) (old new : List ℕ) (at page left : ℕ) (halt : Halt)
     → 4 < usable → 0 < left → now.pages ≡ before.pages → IsAlong usable pages before now holder first bytes wanted old new at page left
-    → Tries now.pages (has_met now) (has_met later) (link_marks at page) (the_err ℕ stop)
-    → Tries before.pages (has_met before) (has_met later) (chain_marks pages (links usable bytes) holder first) (the_err (Unit {0}) stop)
-along_stop usable pages before now later holder first bytes wanted old new at page left stop room some same along tried =
-    let Q : ℕ → Type 0 = λ n. Tries n (has_met now) (has_met later) (link_marks at page) (the_err ℕ stop) in
-    leads_stop ℕ (Unit {0}) before.pages (has_met before) (has_met now) (has_met later) (has_met later) (chain_marks pages (links usable bytes) holder first) (link_marks at page)
-    (chain_marks pages (links usable (left - (usable - 4))) page (next_page pages page)) stop
+    → Tries now.pages (has_met now) (has_met later) (link_marks at page) (the_err ℕ halt)
+    → Tries before.pages (has_met before) (has_met later) (chain_marks pages (links usable bytes) holder first) (the_err (Unit {0}) halt)
+along_halt usable pages before now later holder first bytes wanted old new at page left halt room some same along tried =
+    let Q : ℕ → Type 0 = λ n. Tries n (has_met now) (has_met later) (link_marks at page) (the_err ℕ halt) in
+    leads_halt ℕ (Unit {0}) before.pages (has_met before) (has_met now) (has_met later) (has_met later) (chain_marks pages (links usable bytes) holder first) (link_marks at page)
+    (chain_marks pages (links usable (left - (usable - 4))) page (next_page pages page)) halt
     (along_link usable pages before now holder first bytes wanted old new at page left room some along) (subst Q same tried)

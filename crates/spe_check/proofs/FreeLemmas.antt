@@ -15,11 +15,11 @@ use Rattle.spe_model.specs.Verdict.{free_marks, free_pages, list_marks, node_mar
 use Rattle.spe_model.specs.Walk.{Names, Keeps, trunk_marks, walk_trunks}
 use Rattle.spe_space.proofs.FrontLemmas.{u32_at-take}
 use Rattle.spe_check.specs.declared.met.Met.{Met}
-use Rattle.spe_check.specs.declared.stop.Stop.{Stop}
+use Rattle.spe_check.specs.declared.halt.Halt.{Halt}
 use Rattle.spe_check.specs.FreeLists.{firsts_in, lists_marks, lists_pages, numbered_marks, AreAmong, TriesPages}
 use Rattle.spe_check.specs.MetPages.{has_met}
 use Rattle.spe_check.specs.Tries.{Tries}
-use Rattle.spe_check.proofs.TriesLemmas.{leads_try, leads_stop, tries_stop, tries_then, the_ok, the_err}
+use Rattle.spe_check.proofs.TriesLemmas.{leads_try, leads_halt, tries_halt, tries_then, the_ok, the_err}
 
 -- the first trunks from one on
 abbrev pub firsts_from : List ℕ → (index count : ℕ) → List ℕ
@@ -57,19 +57,19 @@ among_more usable pages before now later node index count free more bytes less s
       counted = omega (arith, was.counted, here.1, both);
     }
 
-pub among_break : (usable : ℕ) (pages : Paging) (before now later : Met) (node index count free : ℕ) (bytes : List ℕ) (stop : Stop) → index < count → now.pages ≡ before.pages
+pub among_break : (usable : ℕ) (pages : Paging) (before now later : Met) (node index count free : ℕ) (bytes : List ℕ) (halt : Halt) → index < count → now.pages ≡ before.pages
     → AreAmong usable pages before now node (firsts_in bytes count) (firsts_from bytes index count) free
-    → TriesPages now later (list_marks usable now.pages pages node (u32_at bytes (4 + 4 * index))) (walk_trunks pages now.pages (u32_at bytes (4 + 4 * index))) (the_err ℕ stop)
-    → TriesPages before later (lists_marks usable before.pages pages node (firsts_in bytes count)) (lists_pages before.pages pages (firsts_in bytes count)) (the_err ℕ stop)
-among_break usable pages before now later node index count free bytes stop less same among tried =
+    → TriesPages now later (list_marks usable now.pages pages node (u32_at bytes (4 + 4 * index))) (walk_trunks pages now.pages (u32_at bytes (4 + 4 * index))) (the_err ℕ halt)
+    → TriesPages before later (lists_marks usable before.pages pages node (firsts_in bytes count)) (lists_pages before.pages pages (firsts_in bytes count)) (the_err ℕ halt)
+among_break usable pages before now later node index count free bytes halt less same among tried =
     let first = u32_at bytes (4 + 4 * index) in
     let rest = firsts_from bytes (index + 1) count in
     let all = firsts_in bytes count in
     let L : List ℕ → Type 0 = λ left. AreAmong usable pages before now node all left free in
-    let N : ℕ → Type 0 = λ n. Tries n (has_met now) (has_met later) (list_marks usable n pages node first) (the_err ℕ stop) in
+    let N : ℕ → Type 0 = λ n. Tries n (has_met now) (has_met later) (list_marks usable n pages node first) (the_err ℕ halt) in
     let was = subst L (firsts_step bytes index count less) among in (
-      leads_stop ℕ ℕ before.pages (has_met before) (has_met now) (has_met later) (has_met later) (lists_marks usable before.pages pages node all) (list_marks usable before.pages pages node first)
-          (lists_marks usable before.pages pages node rest) stop was.tried (subst N same tried.0),
+      leads_halt ℕ ℕ before.pages (has_met before) (has_met now) (has_met later) (has_met later) (lists_marks usable before.pages pages node all) (list_marks usable before.pages pages node first)
+          (lists_marks usable before.pages pages node rest) halt was.tried (subst N same tried.0),
       tt,
     )
 
@@ -84,7 +84,7 @@ among_all usable pages before now node index count free bytes over among =
     (was.tried, omega (arith, was.counted))
 
 -- page 0 is no first trunk
-pub some_list : (usable : ℕ) (pages : Paging) (before after : Met) (node first : ℕ) (r : Result ℕ Stop) → (first == 0) ≡ false
+pub some_list : (usable : ℕ) (pages : Paging) (before after : Met) (node first : ℕ) (r : Result ℕ Halt) → (first == 0) ≡ false
     → TriesPages before after (trunk_marks usable pages before.pages node first) (walk_trunks pages before.pages first) r
     → TriesPages before after (list_marks usable before.pages pages node first) (walk_trunks pages before.pages first) r
 some_list usable pages before after node first r some tried =
@@ -92,10 +92,10 @@ some_list usable pages before after node first r some tried =
     subst P (sym some) tried
 
 -- a node page is not met
-pub node_meets : (usable count : ℕ) (pages : Paging) (a b : ℕ → Bool) (node : ℕ) (stop : Stop) → Tries count a b (Names 1 node ∷ []) (the_err (Unit {0}) stop)
-    → Tries count a b (node_marks usable count pages node) (the_err ℕ stop)
-node_meets usable count pages a b node stop tried =
-    tries_stop (Unit {0}) ℕ count a b b (Names 1 node ∷ []) (Keeps node 11 (is_list_count (u32_at (pages node) 0)) ∷ lists_marks usable count pages node (first_trunks pages node)) stop tried
+pub node_meets : (usable count : ℕ) (pages : Paging) (a b : ℕ → Bool) (node : ℕ) (halt : Halt) → Tries count a b (Names 1 node ∷ []) (the_err (Unit {0}) halt)
+    → Tries count a b (node_marks usable count pages node) (the_err ℕ halt)
+node_meets usable count pages a b node halt tried =
+    tries_halt (Unit {0}) ℕ count a b b (Names 1 node ∷ []) (Keeps node 11 (is_list_count (u32_at (pages node) 0)) ∷ lists_marks usable count pages node (first_trunks pages node)) halt tried
 
 -- the number of lists, in the part of a node page that names them
 number_at : (pages : Paging) (node number : ℕ) (names : List ℕ) → names ≡ take 68 (pages node) → number ≡ u32_at names 0 → number ≡ u32_at (pages node) 0
@@ -107,20 +107,20 @@ names_are pages node size bytes names long is names_is =
     names_is ∙ take-take 68 size bytes (omega (arith, long)) ∙ ap (take 68) is
 
 -- a node page is met, and names no such number of lists
-pub node_stop : (usable count : ℕ) (pages : Paging) (a b : ℕ → Bool) (node number : ℕ) (kept : Bool) (names : List ℕ) (stop : Stop) → names ≡ take 68 (pages node) → number ≡ u32_at names 0 → kept ≡ is_list_count number
-    → Tries count a b (Names 1 node ∷ []) (the_ok (Unit {0}) tt) → Tries count b b (Keeps node 11 kept ∷ []) (the_err (Unit {0}) stop)
-    → Tries count a b (node_marks usable count pages node) (the_err ℕ stop)
-node_stop usable count pages a b node number kept names stop is number_is kept_is met tried =
+pub node_halt : (usable count : ℕ) (pages : Paging) (a b : ℕ → Bool) (node number : ℕ) (kept : Bool) (names : List ℕ) (halt : Halt) → names ≡ take 68 (pages node) → number ≡ u32_at names 0 → kept ≡ is_list_count number
+    → Tries count a b (Names 1 node ∷ []) (the_ok (Unit {0}) tt) → Tries count b b (Keeps node 11 kept ∷ []) (the_err (Unit {0}) halt)
+    → Tries count a b (node_marks usable count pages node) (the_err ℕ halt)
+node_halt usable count pages a b node number kept names halt is number_is kept_is met tried =
     let number_in : kept ≡ is_list_count (u32_at (pages node) 0) = kept_is ∙ ap is_list_count (number_at pages node number names is number_is) in
-    let K : Bool → Type 0 = λ k. Tries count b b (Keeps node 11 k ∷ []) (the_err (Unit {0}) stop) in
-    tries_then {X = Unit {0}} {Y = ℕ} count a b b (Names 1 node ∷ []) (Keeps node 11 (is_list_count (u32_at (pages node) 0)) ∷ lists_marks usable count pages node (first_trunks pages node)) tt (the_err ℕ stop) met
-    (tries_stop (Unit {0}) ℕ count b b b (Keeps node 11 (is_list_count (u32_at (pages node) 0)) ∷ []) (lists_marks usable count pages node (first_trunks pages node)) stop (subst K number_in tried))
+    let K : Bool → Type 0 = λ k. Tries count b b (Keeps node 11 k ∷ []) (the_err (Unit {0}) halt) in
+    tries_then {X = Unit {0}} {Y = ℕ} count a b b (Names 1 node ∷ []) (Keeps node 11 (is_list_count (u32_at (pages node) 0)) ∷ lists_marks usable count pages node (first_trunks pages node)) tt (the_err ℕ halt) met
+    (tries_halt (Unit {0}) ℕ count b b b (Keeps node 11 (is_list_count (u32_at (pages node) 0)) ∷ []) (lists_marks usable count pages node (first_trunks pages node)) halt (subst K number_in tried))
 
 at_most_16 : (n : ℕ) → is_list_count n ≡ true → n ≤ 16
 at_most_16 n is = leb-true n 16 (and_parts (nat_le 1 n) (nat_le n 16) is).1
 
 -- the lists that a node page names, by the part of it that names them
-pub node_lists : (usable : ℕ) (pages : Paging) (before now later : Met) (node number : ℕ) (kept : Bool) (names : List ℕ) (r : Result ℕ Stop) → now.pages ≡ before.pages
+pub node_lists : (usable : ℕ) (pages : Paging) (before now later : Met) (node number : ℕ) (kept : Bool) (names : List ℕ) (r : Result ℕ Halt) → now.pages ≡ before.pages
     → names ≡ take 68 (pages node) → number ≡ u32_at names 0 → kept ≡ is_list_count number → kept ≡ true
     → Tries before.pages (has_met before) (has_met now) (Names 1 node ∷ []) (the_ok (Unit {0}) tt)
     → Tries before.pages (has_met now) (has_met now) (Keeps node 11 kept ∷ []) (the_ok (Unit {0}) tt)
@@ -145,7 +145,7 @@ node_lists usable pages before now later node number kept names r same is number
     )
 
 -- the pages of the only list are counted
-pub stock_counted : (usable : ℕ) (pages : Paging) (before after : Met) (first number free : ℕ) (kept : Bool) (r : Result ℕ Stop) → kept ≡ (free == number) → IfOk r (λ n. n ≡ free)
+pub stock_counted : (usable : ℕ) (pages : Paging) (before after : Met) (first number free : ℕ) (kept : Bool) (r : Result ℕ Halt) → kept ≡ (free == number) → IfOk r (λ n. n ≡ free)
     → TriesPages before after (trunk_marks usable pages before.pages 1 first) (walk_trunks pages before.pages first) (the_ok ℕ free)
     → Tries before.pages (has_met after) (has_met after) (Keeps 1 10 kept ∷ []) r
     → TriesPages before after (numbered_marks usable before.pages pages first number) (walk_trunks pages before.pages first) r
@@ -157,16 +157,16 @@ stock_counted usable pages before after first number free kept r kept_is found t
       counted r found,
     )
   where
-    counted : (r : Result ℕ Stop) → IfOk r (λ n. n ≡ free) → IfOk r (λ n. n ≡ length (walk_trunks pages before.pages first))
+    counted : (r : Result ℕ Halt) → IfOk r (λ n. n ≡ free) → IfOk r (λ n. n ≡ length (walk_trunks pages before.pages first))
     counted (Ok n) found = found ∙ tried.1
-    counted (Err stop) found = tt
+    counted (Err halt) found = tt
 
-pub stock_stop : (usable : ℕ) (pages : Paging) (before after : Met) (first number : ℕ) (stop : Stop)
-    → Tries before.pages (has_met before) (has_met after) (trunk_marks usable pages before.pages 1 first) (the_err ℕ stop)
-    → Tries before.pages (has_met before) (has_met after) (numbered_marks usable before.pages pages first number) (the_err ℕ stop)
-stock_stop usable pages before after first number stop tried =
-    tries_stop ℕ ℕ before.pages (has_met before) (has_met after) (has_met after) (trunk_marks usable pages before.pages 1 first)
-    (Keeps 1 10 (length (walk_trunks pages before.pages first) == number) ∷ []) stop tried
+pub stock_halt : (usable : ℕ) (pages : Paging) (before after : Met) (first number : ℕ) (halt : Halt)
+    → Tries before.pages (has_met before) (has_met after) (trunk_marks usable pages before.pages 1 first) (the_err ℕ halt)
+    → Tries before.pages (has_met before) (has_met after) (numbered_marks usable before.pages pages first number) (the_err ℕ halt)
+stock_halt usable pages before after first number halt tried =
+    tries_halt ℕ ℕ before.pages (has_met before) (has_met after) (has_met after) (trunk_marks usable pages before.pages 1 first)
+    (Keeps 1 10 (length (walk_trunks pages before.pages first) == number) ∷ []) halt tried
 
 -- what a legal header says of the bytes that it was read from
 no_fault : (fault : Option HeaderFault) (made header : Header) → unless fault made ≡ Ok header → made ≡ header
@@ -195,7 +195,7 @@ names_as : (bytes : List ℕ) (header : Header) → header_of (take 100 bytes) �
 names_as bytes header is = rw (header_first bytes header is, header_number bytes header is) refl
 
 -- in server form
-pub free_server : (usable : ℕ) (pages : Paging) (before after : Met) (header : Header) (node : ℕ) (r : Result ℕ Stop) → node_of header ≡ Some node → header_of (take 100 (pages 1)) ≡ Ok header
+pub free_server : (usable : ℕ) (pages : Paging) (before after : Met) (header : Header) (node : ℕ) (r : Result ℕ Halt) → node_of header ≡ Some node → header_of (take 100 (pages 1)) ≡ Ok header
     → TriesPages before after (node_marks usable before.pages pages node) (lists_pages before.pages pages (first_trunks pages node)) r
     → TriesPages before after (free_marks usable before.pages pages) (free_pages before.pages pages) r
 free_server usable pages before after header node r named is tried =
@@ -208,7 +208,7 @@ free_server usable pages before after header node r named is tried =
     subst B (sym server) (subst N at tried)
 
 -- in stock form
-pub free_stock : (usable : ℕ) (pages : Paging) (before after : Met) (header : Header) (r : Result ℕ Stop) → node_of header ≡ None → header_of (take 100 (pages 1)) ≡ Ok header
+pub free_stock : (usable : ℕ) (pages : Paging) (before after : Met) (header : Header) (r : Result ℕ Halt) → node_of header ≡ None → header_of (take 100 (pages 1)) ≡ Ok header
     → TriesPages before after (numbered_marks usable before.pages pages header.first_free header.free_count) (walk_trunks pages before.pages header.first_free) r
     → TriesPages before after (free_marks usable before.pages pages) (free_pages before.pages pages) r
 free_stock usable pages before after header r named is tried =

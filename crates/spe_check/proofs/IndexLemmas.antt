@@ -8,13 +8,13 @@ use Rattle.spe_model.specs.Paging.{Paging}
 use Rattle.spe_model.specs.Tree.{node_at, node_cells, node_right, cells_in, right_in}
 use Rattle.spe_model.specs.Walk.{Mark, cell_chain, chains_marks, first_child, has_kind, index_fan_marks, index_marks, is_leaf_page, levels_at_leaf}
 use Rattle.spe_check.specs.declared.met.Met.{Met}
-use Rattle.spe_check.specs.declared.stop.Stop.{Stop}
+use Rattle.spe_check.specs.declared.halt.Halt.{Halt}
 use Rattle.spe_check.specs.IndexTree.{level_of, IsFanned}
 use Rattle.spe_check.specs.MetPages.{has_met}
 use Rattle.spe_check.specs.Pages.{IsStand, behind_read, place_marks, read_marks}
 use Rattle.spe_check.specs.Tries.{Leads, Tries}
 use Rattle.spe_check.proofs.PageLemmas.{kind_marks, misplaced, placed_are}
-use Rattle.spe_check.proofs.TriesLemmas.{leads_try, leads_stop, leads_last, tries_stop, tries_then, the_ok, the_err}
+use Rattle.spe_check.proofs.TriesLemmas.{leads_try, leads_halt, leads_last, tries_halt, tries_then, the_ok, the_err}
 
 -- the chain of a cell more
 pub chains_more : (count now : ℕ) (a b c : ℕ → Bool) (usable : ℕ) (pages : Paging) (page : ℕ) (all left rest : List Cell) (cell : Cell) → now ≡ count → left ≡ cell ∷ rest
@@ -27,14 +27,14 @@ chains_more count now a b c usable pages page all left rest cell same is led tri
     leads_try (Unit {0}) count a b c (chains_marks usable pages page all) (cell_chain usable pages page cell) (chains_marks usable pages page rest) tt
     (subst P (ap (chains_marks usable pages page) is ∙ flat_map-cons (cell_chain usable pages page) cell rest) led) (subst Q same tried)
 
-pub chains_stop : (count now : ℕ) (a b c : ℕ → Bool) (usable : ℕ) (pages : Paging) (page : ℕ) (all left rest : List Cell) (cell : Cell) (stop : Stop) → now ≡ count → left ≡ cell ∷ rest
+pub chains_halt : (count now : ℕ) (a b c : ℕ → Bool) (usable : ℕ) (pages : Paging) (page : ℕ) (all left rest : List Cell) (cell : Cell) (halt : Halt) → now ≡ count → left ≡ cell ∷ rest
     → Leads count a (chains_marks usable pages page all) b (chains_marks usable pages page left)
-    → Tries now b c (cell_chain usable pages page cell) (the_err (Unit {0}) stop)
-    → Tries count a c (chains_marks usable pages page all) (the_err (Unit {0}) stop)
-chains_stop count now a b c usable pages page all left rest cell stop same is led tried =
+    → Tries now b c (cell_chain usable pages page cell) (the_err (Unit {0}) halt)
+    → Tries count a c (chains_marks usable pages page all) (the_err (Unit {0}) halt)
+chains_halt count now a b c usable pages page all left rest cell halt same is led tried =
     let P : List Mark → Type 0 = λ marks. Leads count a (chains_marks usable pages page all) b marks in
-    let Q : ℕ → Type 0 = λ n. Tries n b c (cell_chain usable pages page cell) (the_err (Unit {0}) stop) in
-    leads_stop (Unit {0}) (Unit {0}) count a b c c (chains_marks usable pages page all) (cell_chain usable pages page cell) (chains_marks usable pages page rest) stop
+    let Q : ℕ → Type 0 = λ n. Tries n b c (cell_chain usable pages page cell) (the_err (Unit {0}) halt) in
+    leads_halt (Unit {0}) (Unit {0}) count a b c c (chains_marks usable pages page all) (cell_chain usable pages page cell) (chains_marks usable pages page rest) halt
     (subst P (ap (chains_marks usable pages page) is ∙ flat_map-cons (cell_chain usable pages page) cell rest) led) (subst Q same tried)
 
 -- the marks of reading the first page come first
@@ -132,47 +132,47 @@ chains_end count a b usable pages page all [] none led = led
 chains_end count a b usable pages page all (c ∷ cs) none led = absurd (omega (arith, none))
 
 -- the page itself breaks a rule
-pub index_stop : (count : ℕ) (a : ℕ → Bool) (usable : ℕ) (pages : Paging) (stand levels holder page : ℕ) (node : PageCells) (stop : Stop) → node_at usable pages page ≡ Ok node
-    → Tries count a a (place_marks false levels stand page node.kind) (the_err (Unit {0}) stop)
-    → Tries count a a (behind_read (index_marks usable pages stand levels holder page)) (the_err ℕ stop)
-index_stop count a usable pages stand zero holder page node stop is tried =
-    misplaced count a false usable pages stand zero page node [] stop is tried
-index_stop count a usable pages stand (suc m) holder page node stop is tried =
+pub index_halt : (count : ℕ) (a : ℕ → Bool) (usable : ℕ) (pages : Paging) (stand levels holder page : ℕ) (node : PageCells) (halt : Halt) → node_at usable pages page ≡ Ok node
+    → Tries count a a (place_marks false levels stand page node.kind) (the_err (Unit {0}) halt)
+    → Tries count a a (behind_read (index_marks usable pages stand levels holder page)) (the_err ℕ halt)
+index_halt count a usable pages stand zero holder page node halt is tried =
+    misplaced count a false usable pages stand zero page node [] halt is tried
+index_halt count a usable pages stand (suc m) holder page node halt is tried =
     misplaced count a false usable pages stand (suc m) page node
     (if is_leaf_page usable pages page then chains_marks usable pages page (node_cells usable pages page)
-    else index_fan_marks (index_marks usable pages stand m) usable pages page (node_cells usable pages page) (node_right usable pages page)) stop is tried
+    else index_fan_marks (index_marks usable pages stand m) usable pages page (node_cells usable pages page) (node_right usable pages page)) halt is tried
 
 -- a child breaks a rule
-pub fanned_stop : (usable : ℕ) (pages : Paging) (before now later : Met) (all : List Mark) (stand levels page : ℕ) (leaf : Option ℕ) (left rest : List Cell) (cell : Cell) (right : ℕ) (stop : Stop)
+pub fanned_halt : (usable : ℕ) (pages : Paging) (before now later : Met) (all : List Mark) (stand levels page : ℕ) (leaf : Option ℕ) (left rest : List Cell) (cell : Cell) (right : ℕ) (halt : Halt)
     → now.pages ≡ before.pages → left ≡ cell ∷ rest → IsFanned usable pages before now all stand levels page leaf left right
-    → Tries now.pages (has_met now) (has_met later) (index_marks usable pages stand (levels - 1) page cell.left) (the_err ℕ stop)
-    → Tries before.pages (has_met before) (has_met later) all (the_err ℕ stop)
-fanned_stop usable pages before now later all stand levels page leaf left rest cell right stop same is fanned child =
+    → Tries now.pages (has_met now) (has_met later) (index_marks usable pages stand (levels - 1) page cell.left) (the_err ℕ halt)
+    → Tries before.pages (has_met before) (has_met later) all (the_err ℕ halt)
+fanned_halt usable pages before now later all stand levels page leaf left rest cell right halt same is fanned child =
     let walk = index_marks usable pages stand (levels - 1) in
     let P : List Cell → Type 0 = λ cs. Leads before.pages (has_met before) all (has_met now) (index_fan_marks walk usable pages page cs right) in
-    let Q : ℕ → Type 0 = λ n. Tries n (has_met now) (has_met later) (walk page cell.left) (the_err ℕ stop) in
-    let both = tries_stop ℕ ℕ before.pages (has_met now) (has_met later) (has_met later) (walk page cell.left) (cell_chain usable pages page cell) stop (subst Q same child) in
-    leads_stop ℕ ℕ before.pages (has_met before) (has_met now) (has_met later) (has_met later) all
-    (walk page cell.left ++ cell_chain usable pages page cell) (index_fan_marks walk usable pages page rest right) stop (subst P is fanned.tried) both
+    let Q : ℕ → Type 0 = λ n. Tries n (has_met now) (has_met later) (walk page cell.left) (the_err ℕ halt) in
+    let both = tries_halt ℕ ℕ before.pages (has_met now) (has_met later) (has_met later) (walk page cell.left) (cell_chain usable pages page cell) halt (subst Q same child) in
+    leads_halt ℕ ℕ before.pages (has_met before) (has_met now) (has_met later) (has_met later) all
+    (walk page cell.left ++ cell_chain usable pages page cell) (index_fan_marks walk usable pages page rest right) halt (subst P is fanned.tried) both
 
 -- the chain of its cell does
-pub fanned_chain : (usable : ℕ) (pages : Paging) (before now mid later : Met) (all : List Mark) (stand levels page level : ℕ) (leaf : Option ℕ) (left rest : List Cell) (cell : Cell) (right : ℕ) (stop : Stop)
+pub fanned_chain : (usable : ℕ) (pages : Paging) (before now mid later : Met) (all : List Mark) (stand levels page level : ℕ) (leaf : Option ℕ) (left rest : List Cell) (cell : Cell) (right : ℕ) (halt : Halt)
     → now.pages ≡ before.pages → mid.pages ≡ before.pages → left ≡ cell ∷ rest → IsFanned usable pages before now all stand levels page leaf left right
     → Tries now.pages (has_met now) (has_met mid) (index_marks usable pages stand (levels - 1) page cell.left) (the_ok ℕ level)
-    → Tries mid.pages (has_met mid) (has_met later) (cell_chain usable pages page cell) (the_err (Unit {0}) stop)
-    → Tries before.pages (has_met before) (has_met later) all (the_err ℕ stop)
-fanned_chain usable pages before now mid later all stand levels page level leaf left rest cell right stop same same2 is fanned child chain =
+    → Tries mid.pages (has_met mid) (has_met later) (cell_chain usable pages page cell) (the_err (Unit {0}) halt)
+    → Tries before.pages (has_met before) (has_met later) all (the_err ℕ halt)
+fanned_chain usable pages before now mid later all stand levels page level leaf left rest cell right halt same same2 is fanned child chain =
     let walk = index_marks usable pages stand (levels - 1) in
     let P : List Cell → Type 0 = λ cs. Leads before.pages (has_met before) all (has_met now) (index_fan_marks walk usable pages page cs right) in
     let Q : ℕ → Type 0 = λ n. Tries n (has_met now) (has_met mid) (walk page cell.left) (the_ok ℕ level) in
-    let R : ℕ → Type 0 = λ n. Tries n (has_met mid) (has_met later) (cell_chain usable pages page cell) (the_err (Unit {0}) stop) in
-    let both = tries_then {X = ℕ} {Y = Unit {0}} before.pages (has_met now) (has_met mid) (has_met later) (walk page cell.left) (cell_chain usable pages page cell) level (the_err (Unit {0}) stop)
+    let R : ℕ → Type 0 = λ n. Tries n (has_met mid) (has_met later) (cell_chain usable pages page cell) (the_err (Unit {0}) halt) in
+    let both = tries_then {X = ℕ} {Y = Unit {0}} before.pages (has_met now) (has_met mid) (has_met later) (walk page cell.left) (cell_chain usable pages page cell) level (the_err (Unit {0}) halt)
     (subst Q same child) (subst R same2 chain) in
-    leads_stop (Unit {0}) ℕ before.pages (has_met before) (has_met now) (has_met later) (has_met later) all
-    (walk page cell.left ++ cell_chain usable pages page cell) (index_fan_marks walk usable pages page rest right) stop (subst P is fanned.tried) both
+    leads_halt (Unit {0}) ℕ before.pages (has_met before) (has_met now) (has_met later) (has_met later) all
+    (walk page cell.left ++ cell_chain usable pages page cell) (index_fan_marks walk usable pages page rest right) halt (subst P is fanned.tried) both
 
 -- the right-most child is the last
-pub fanned_last : (usable : ℕ) (pages : Paging) (before now later : Met) (all : List Mark) (stand levels page : ℕ) (leaf : Option ℕ) (left : List Cell) (right : ℕ) (r : Result ℕ Stop)
+pub fanned_last : (usable : ℕ) (pages : Paging) (before now later : Met) (all : List Mark) (stand levels page : ℕ) (leaf : Option ℕ) (left : List Cell) (right : ℕ) (r : Result ℕ Halt)
     → now.pages ≡ before.pages → length left < 1 → IsFanned usable pages before now all stand levels page leaf left right
     → ((stand' : ℕ) → IsStand leaf stand' (levels_at_leaf usable pages (levels - 1) right)
     → Tries now.pages (has_met now) (has_met later) (index_marks usable pages stand' (levels - 1) page right) r × IfOk r (λ level. stand' ≡ level))
@@ -192,7 +192,7 @@ stands_at (Some level) stand first levels same is = is
 stands_at None stand first levels same is = is ∙ same
 
 -- a leaf, whose chains are tried
-pub leaf_last : (before later : Met) (usable : ℕ) (pages : Paging) (stand levels holder page at : ℕ) (node : PageCells) (r : Result ℕ Stop) → 0 < levels
+pub leaf_last : (before later : Met) (usable : ℕ) (pages : Paging) (stand levels holder page at : ℕ) (node : PageCells) (r : Result ℕ Halt) → 0 < levels
     → node_at usable pages page ≡ Ok node → is_leaf node.kind ≡ true → stand ≡ at
     → Tries before.pages (has_met before) (has_met before) (place_marks false levels stand page node.kind) (the_ok (Unit {0}) tt)
     → Tries before.pages (has_met before) (has_met later) (chains_marks usable pages page node.cells) r → IfOk r (λ level. level ≡ at)
@@ -204,9 +204,9 @@ leaf_last before later usable pages stand levels holder page at node r some is k
       levelled r level,
     )
   where
-    levelled : (r : Result ℕ Stop) → IfOk r (λ level. level ≡ at) → IfOk r (λ level. stand ≡ level)
+    levelled : (r : Result ℕ Halt) → IfOk r (λ level. level ≡ at) → IfOk r (λ level. stand ≡ level)
     levelled (Ok l) e = stands ∙ sym e
-    levelled (Err stop) e = tt
+    levelled (Err halt) e = tt
 
 -- where the first leaf stands, seen from the next child
 pub child_stands : (usable : ℕ) (pages : Paging) (before now : Met) (all : List Mark) (stand levels page : ℕ) (leaf : Option ℕ) (left rest : List Cell) (cell : Cell) (right : ℕ)

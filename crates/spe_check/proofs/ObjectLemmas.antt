@@ -20,15 +20,15 @@ use Rattle.spe_model.specs.Tree.{header_end, node_at}
 use Rattle.spe_model.specs.Verdict.{LeafRow, is_open, no_marks, object_marks, open_rows, own_marks, record_marks, root_marks, schema_rows, table_in, tree_levels}
 use Rattle.spe_model.specs.Walk.{Mark, Names, Keeps, RowMarks, index_marks, is_legal, is_one_of, table_marks, walk_rows}
 use Rattle.spe_check.specs.declared.met.Met.{Met}
-use Rattle.spe_check.specs.declared.stop.Stop.{Stop}
-use Rattle.spe_check.specs.declared.stop.Stop.TheVariants.{Broken}
+use Rattle.spe_check.specs.declared.halt.Halt.{Halt}
+use Rattle.spe_check.specs.declared.halt.Halt.TheVariants.{Broken}
 use Rattle.spe_check.specs.MetPages.{has_met}
 use Rattle.spe_check.specs.Objects.{index_tree, table_tree, open_columns, rows_of_open, IsTried}
 use Rattle.spe_check.specs.Pages.{behind_read, read_marks}
 use Rattle.spe_check.specs.RecordRows.{saturated}
 use Rattle.spe_check.specs.SchemaRows.{rows_in}
 use Rattle.spe_check.specs.Tries.{Leads, Tries}
-use Rattle.spe_check.proofs.TriesLemmas.{leads_try, leads_stop, names_out, tries_stop, tries_then, the_ok, the_err}
+use Rattle.spe_check.proofs.TriesLemmas.{leads_try, leads_halt, names_out, tries_halt, tries_then, the_ok, the_err}
 
 abbrev ok : PageCells → Result PageCells PageFault
 ok x = Ok x
@@ -108,9 +108,9 @@ unrooted_rows usable pages row unrooted =
 saturated_none : (n : ℕ) → n ≡ 0 → 0 ≡ saturated n
 saturated_none n is = omega (arith, is)
 
-pub if_ok : (r : Result ℕ Stop) (m n : ℕ) → m ≡ n → IfOk r (λ x. x ≡ m) → IfOk r (λ x. x ≡ n)
+pub if_ok : (r : Result ℕ Halt) (m n : ℕ) → m ≡ n → IfOk r (λ x. x ≡ m) → IfOk r (λ x. x ≡ n)
 if_ok (Ok x) m n same is = is ∙ same
-if_ok (Err stop) m n same is = tt
+if_ok (Err halt) m n same is = tt
 
 -- the marks of a tree by the kind of its root
 root_is : (usable : ℕ) (pages : Paging) (leaf : ℕ) (row : SchemaRow) (root : ℕ) (b : Bool) → is_index_page pages root ≡ b
@@ -118,7 +118,7 @@ root_is : (usable : ℕ) (pages : Paging) (leaf : ℕ) (row : SchemaRow) (root :
 root_is usable pages leaf row root b is = ap (λ k. if k then index_tree usable pages leaf root else table_tree (own_marks usable pages row) usable pages leaf root) is
 
 -- the tree of an index was tried
-pub tree_index : (count : ℕ) (a b : ℕ → Bool) (usable : ℕ) (pages : Paging) (holder : ℕ) (row : SchemaRow) (root : ℕ) (node : PageCells) (r : Result ℕ Stop)
+pub tree_index : (count : ℕ) (a b : ℕ → Bool) (usable : ℕ) (pages : Paging) (holder : ℕ) (row : SchemaRow) (root : ℕ) (node : PageCells) (r : Result ℕ Halt)
     → root ≡ root_of row.rootpage → node_at usable pages root ≡ Ok node → is_table node.kind ≡ false
     → Tries count a b (behind_read (index_tree usable pages holder root)) r × IfOk r (λ n. n ≡ 0)
     → Tries count a b (behind_read (root_marks usable pages holder row root)) r × IfOk r (λ n. n ≡ saturated (open_rows usable pages row))
@@ -153,7 +153,7 @@ tree_rooted usable pages row root node at some is kind =
     subst P at (rw (some, index) refl)
 
 -- the tree of an open table was tried
-pub tree_open : (count : ℕ) (a b : ℕ → Bool) (usable : ℕ) (pages : Paging) (holder : ℕ) (row : SchemaRow) (root columns : ℕ) (node : PageCells) (r : Result ℕ Stop)
+pub tree_open : (count : ℕ) (a b : ℕ → Bool) (usable : ℕ) (pages : Paging) (holder : ℕ) (row : SchemaRow) (root columns : ℕ) (node : PageCells) (r : Result ℕ Halt)
     → root ≡ root_of row.rootpage → node_at usable pages root ≡ Ok node → is_table node.kind ≡ true
     → Some columns ≡ open_columns (is_index_page pages) (schema_rows usable pages) row
     → Tries count a b (behind_read (table_tree (record_marks columns) usable pages holder root)) r × IfOk r (λ n. n ≡ saturated (length (walk_rows usable pages tree_levels root)))
@@ -172,7 +172,7 @@ tree_open count a b usable pages holder row root columns node r at is kind colum
     )
 
 -- the tree of a table that is not open was tried
-pub tree_closed : (count : ℕ) (a b : ℕ → Bool) (usable : ℕ) (pages : Paging) (holder : ℕ) (row : SchemaRow) (root : ℕ) (node : PageCells) (r : Result ℕ Stop)
+pub tree_closed : (count : ℕ) (a b : ℕ → Bool) (usable : ℕ) (pages : Paging) (holder : ℕ) (row : SchemaRow) (root : ℕ) (node : PageCells) (r : Result ℕ Halt)
     → node_at usable pages root ≡ Ok node → is_table node.kind ≡ true → None ≡ open_columns (is_index_page pages) (schema_rows usable pages) row
     → Tries count a b (behind_read (table_tree no_marks usable pages holder root)) r × IfOk r (λ n. n ≡ 0)
     → Tries count a b (behind_read (root_marks usable pages holder row root)) r × IfOk r (λ n. n ≡ saturated (open_rows usable pages row))
@@ -214,7 +214,7 @@ object_some usable pages leaf row root at some =
     subst P at (ap (λ b. if b then [] else root_marks usable pages leaf row root) some) ∙ root_front usable pages leaf row root
 
 -- an object whose root is read, and whose tree is tried from there on
-pub object_tried : (usable : ℕ) (pages : Paging) (before now later : Met) (leaf : ℕ) (row : SchemaRow) (root : ℕ) (node : PageCells) (r : Result ℕ Stop)
+pub object_tried : (usable : ℕ) (pages : Paging) (before now later : Met) (leaf : ℕ) (row : SchemaRow) (root : ℕ) (node : PageCells) (r : Result ℕ Halt)
     → root ≡ root_of row.rootpage → (root == 0) ≡ false → now.pages ≡ before.pages
     → Tries before.pages (has_met before) (has_met now) (read_marks usable pages leaf root) (the_ok PageCells node)
     → Tries now.pages (has_met now) (has_met later) (behind_read (root_marks usable pages leaf row root)) r
@@ -226,12 +226,12 @@ object_tried usable pages before now later leaf row root node r at some same rea
     (tries_then {X = PageCells} {Y = ℕ} before.pages (has_met before) (has_met now) (has_met later) (read_marks usable pages leaf root) (behind_read (root_marks usable pages leaf row root)) node r read
     (subst Q same tried))
 
-pub object_stops : (usable : ℕ) (pages : Paging) (count : ℕ) (a b : ℕ → Bool) (leaf : ℕ) (row : SchemaRow) (root : ℕ) (stop : Stop) → root ≡ root_of row.rootpage → (root == 0) ≡ false
-    → Tries count a b (read_marks usable pages leaf root) (the_err PageCells stop) → Tries count a b (object_marks usable pages (leaf, row)) (the_err ℕ stop)
-object_stops usable pages count a b leaf row root stop at some read =
-    let P : List Mark → Type 0 = λ marks. Tries count a b marks (the_err ℕ stop) in
+pub object_halts : (usable : ℕ) (pages : Paging) (count : ℕ) (a b : ℕ → Bool) (leaf : ℕ) (row : SchemaRow) (root : ℕ) (halt : Halt) → root ≡ root_of row.rootpage → (root == 0) ≡ false
+    → Tries count a b (read_marks usable pages leaf root) (the_err PageCells halt) → Tries count a b (object_marks usable pages (leaf, row)) (the_err ℕ halt)
+object_halts usable pages count a b leaf row root halt at some read =
+    let P : List Mark → Type 0 = λ marks. Tries count a b marks (the_err ℕ halt) in
     subst P (sym (object_some usable pages leaf row root at some))
-    (tries_stop PageCells ℕ count a b b (read_marks usable pages leaf root) (behind_read (root_marks usable pages leaf row root)) stop read)
+    (tries_halt PageCells ℕ count a b b (read_marks usable pages leaf root) (behind_read (root_marks usable pages leaf row root)) halt read)
 
 -- there are fewer pages
 pub object_out : (usable : ℕ) (pages : Paging) (count : ℕ) (a : ℕ → Bool) (leaf : ℕ) (row : SchemaRow) → (root_of row.rootpage ≤ count → ⊥)
@@ -242,8 +242,8 @@ object_out usable pages count a leaf row out = go (root_of row.rootpage) refl ou
     go root at far =
         let some : (root == 0) ≡ false = grind (arith, far) in
         let none : is_one_of count root ≡ false = grind (arith, far) in
-        object_stops usable pages count a a leaf row root (Broken leaf 1) at some
-        (tries_stop (Unit {0}) PageCells count a a a (Names leaf root ∷ []) (Keeps root 3 (is_legal (node_at usable pages root)) ∷ []) (Broken leaf 1) (names_out count a leaf root none))
+        object_halts usable pages count a a leaf row root (Broken leaf 1) at some
+        (tries_halt (Unit {0}) PageCells count a a a (Names leaf root ∷ []) (Keeps root 3 (is_legal (node_at usable pages root)) ∷ []) (Broken leaf 1) (names_out count a leaf root none))
 
 -- a row without a root
 pub object_none : (usable : ℕ) (pages : Paging) (count : ℕ) (a : ℕ → Bool) (leaf : ℕ) (row : SchemaRow) → root_of row.rootpage ≡ 0
@@ -289,16 +289,16 @@ tried_next usable pages before now later placed left rest first rows more total 
           ∙ ap (λ n. saturated (rows + n)) (sym (sum_by-cons (λ x. x) (open_rows usable pages first.1) (map (open_rows usable pages) (rows_in rest)))) ∙ subst C is tried.counted;
     }
 
-pub tried_stop : (usable : ℕ) (pages : Paging) (before now later : Met) (placed left rest : List (ℕ × SchemaRow)) (first : ℕ × SchemaRow) (rows : ℕ) (stop : Stop)
+pub tried_halt : (usable : ℕ) (pages : Paging) (before now later : Met) (placed left rest : List (ℕ × SchemaRow)) (first : ℕ × SchemaRow) (rows : ℕ) (halt : Halt)
     → now.pages ≡ before.pages → left ≡ first ∷ rest → IsTried usable pages before now placed left rows
-    → Tries now.pages (has_met now) (has_met later) (object_marks usable pages first) (the_err ℕ stop)
-    → Tries before.pages (has_met before) (has_met later) (flat_map (object_marks usable pages) placed) (the_err ℕ stop)
-tried_stop usable pages before now later placed left rest first rows stop same is tried object =
+    → Tries now.pages (has_met now) (has_met later) (object_marks usable pages first) (the_err ℕ halt)
+    → Tries before.pages (has_met before) (has_met later) (flat_map (object_marks usable pages) placed) (the_err ℕ halt)
+tried_halt usable pages before now later placed left rest first rows halt same is tried object =
     let P : List (ℕ × SchemaRow) → Type 0 = λ l. Leads before.pages (has_met before) (flat_map (object_marks usable pages) placed) (has_met now) (flat_map (object_marks usable pages) l) in
     let R : List Mark → Type 0 = λ l. Leads before.pages (has_met before) (flat_map (object_marks usable pages) placed) (has_met now) l in
-    let Q : ℕ → Type 0 = λ n. Tries n (has_met now) (has_met later) (object_marks usable pages first) (the_err ℕ stop) in
-    leads_stop ℕ ℕ before.pages (has_met before) (has_met now) (has_met later) (has_met later) (flat_map (object_marks usable pages) placed) (object_marks usable pages first)
-    (flat_map (object_marks usable pages) rest) stop (subst R (flat_map-cons (object_marks usable pages) first rest) (subst P is tried.tried)) (subst Q same object)
+    let Q : ℕ → Type 0 = λ n. Tries n (has_met now) (has_met later) (object_marks usable pages first) (the_err ℕ halt) in
+    leads_halt ℕ ℕ before.pages (has_met before) (has_met now) (has_met later) (has_met later) (flat_map (object_marks usable pages) placed) (object_marks usable pages first)
+    (flat_map (object_marks usable pages) rest) halt (subst R (flat_map-cons (object_marks usable pages) first rest) (subst P is tried.tried)) (subst Q same object)
 
 pub tried_end : (usable : ℕ) (pages : Paging) (before now : Met) (placed left : List (ℕ × SchemaRow)) (rows : ℕ) → length left < 1 → rows ≤ 18446744073709551615
     → IsTried usable pages before now placed left rows

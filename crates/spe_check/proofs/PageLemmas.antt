@@ -9,18 +9,18 @@ use Rattle.spe_model.specs.Paging.{Paging}
 use Rattle.spe_model.specs.Tree.{node_at, header_end}
 use Rattle.spe_model.specs.Walk.{Mark, Names, Keeps, is_legal, has_kind, is_leaf_page, is_sort, levels_at_leaf}
 use Rattle.spe_check.specs.declared.met.Met.{Met}
-use Rattle.spe_check.specs.declared.stop.Stop.{Stop}
-use Rattle.spe_check.specs.declared.stop.Stop.TheVariants.{Broken, Space}
+use Rattle.spe_check.specs.declared.halt.Halt.{Halt}
+use Rattle.spe_check.specs.declared.halt.Halt.TheVariants.{Broken, Space}
 use Rattle.std.specs.Prelude.{IfOk}
 use Rattle.spe_model.specs.declared.page.PageFault.TheVariants.{BadType, OffsetOut, CellOut, Overlap, OutOfOrder, Memory}
 use Rattle.spe_format.specs.Answers.{Fails}
 use Rattle.spe_space.specs.declared.fault.SpaceFault.{SpaceFault}
 use Rattle.spe_space.specs.declared.pages.Pages.{Ghosts}
 use Rattle.spe_space.specs.Outcome.{refusal_of}
-use Rattle.spe_check.specs.Pages.{is_of_sort, is_placed, stands_well, IsStand, IsStopOf, IsReading, behind_read, place_marks, read_marks}
-use Rattle.spe_check.specs.Shown.{RefusesStop, Walked}
+use Rattle.spe_check.specs.Pages.{is_of_sort, is_placed, stands_well, IsStand, IsHaltOf, IsReading, behind_read, place_marks, read_marks}
+use Rattle.spe_check.specs.Shown.{RefusesHalt, Walked}
 use Rattle.spe_check.specs.Tries.{Breaks, Tries}
-use Rattle.spe_check.proofs.TriesLemmas.{tries_then, tries_stop, keeps_passes, the_ok, the_err}
+use Rattle.spe_check.proofs.TriesLemmas.{tries_then, tries_halt, keeps_passes, the_ok, the_err}
 
 eq_self : (n : ℕ) → (n == n) ≡ true
 eq_self n = grind arith
@@ -53,20 +53,20 @@ pub node_is : (usable size at : ℕ) (pages : Paging) (page : ℕ) (bytes : List
 node_is usable size at pages page bytes same place is =
     ap (λ n. page_at (take n bytes) at) same ∙ ap (λ b. page_at (take usable b) at) is ∙ ap (λ m. page_at (take usable (pages page)) m) place
 
-pub reading_stops : (fault : PageFault) (reading : Result PageCells PageFault) (page : ℕ) (stop : Stop) → Fails fault reading → IsStopOf page fault stop
-    → IsReading page reading (the_err PageCells stop)
-reading_stops Memory reading page stop fails is = let P : Stop → Type 0 = λ s. IsReading page reading (the_err PageCells s) in subst P (sym is) refl
-reading_stops BadType reading page stop fails is = let P : Stop → Type 0 = λ s. IsReading page reading (the_err PageCells s) in subst P (sym is) (refl, refl, ap is_legal fails)
-reading_stops OffsetOut reading page stop fails is = let P : Stop → Type 0 = λ s. IsReading page reading (the_err PageCells s) in subst P (sym is) (refl, refl, ap is_legal fails)
-reading_stops CellOut reading page stop fails is = let P : Stop → Type 0 = λ s. IsReading page reading (the_err PageCells s) in subst P (sym is) (refl, refl, ap is_legal fails)
-reading_stops Overlap reading page stop fails is = let P : Stop → Type 0 = λ s. IsReading page reading (the_err PageCells s) in subst P (sym is) (refl, refl, ap is_legal fails)
-reading_stops OutOfOrder reading page stop fails is = let P : Stop → Type 0 = λ s. IsReading page reading (the_err PageCells s) in subst P (sym is) (refl, refl, ap is_legal fails)
+pub reading_halts : (fault : PageFault) (reading : Result PageCells PageFault) (page : ℕ) (halt : Halt) → Fails fault reading → IsHaltOf page fault halt
+    → IsReading page reading (the_err PageCells halt)
+reading_halts Memory reading page halt fails is = let P : Halt → Type 0 = λ s. IsReading page reading (the_err PageCells s) in subst P (sym is) refl
+reading_halts BadType reading page halt fails is = let P : Halt → Type 0 = λ s. IsReading page reading (the_err PageCells s) in subst P (sym is) (refl, refl, ap is_legal fails)
+reading_halts OffsetOut reading page halt fails is = let P : Halt → Type 0 = λ s. IsReading page reading (the_err PageCells s) in subst P (sym is) (refl, refl, ap is_legal fails)
+reading_halts CellOut reading page halt fails is = let P : Halt → Type 0 = λ s. IsReading page reading (the_err PageCells s) in subst P (sym is) (refl, refl, ap is_legal fails)
+reading_halts Overlap reading page halt fails is = let P : Halt → Type 0 = λ s. IsReading page reading (the_err PageCells s) in subst P (sym is) (refl, refl, ap is_legal fails)
+reading_halts OutOfOrder reading page halt fails is = let P : Halt → Type 0 = λ s. IsReading page reading (the_err PageCells s) in subst P (sym is) (refl, refl, ap is_legal fails)
 
 third : (count : ℕ) (b : ℕ → Bool) (page q rule : ℕ) (legal : Bool) → q ≡ page → rule ≡ 3 → legal ≡ false → Breaks count b (Keeps page 3 legal ∷ []) (q, rule)
 third count b page q rule legal e1 e2 e3 more = rw (e1, e2, e3) refl
 
 -- a page is met, and then read
-pub read_last : (count : ℕ) (a b : ℕ → Bool) (usable : ℕ) (pages : Paging) (holder page : ℕ) (r : Result PageCells Stop)
+pub read_last : (count : ℕ) (a b : ℕ → Bool) (usable : ℕ) (pages : Paging) (holder page : ℕ) (r : Result PageCells Halt)
     → Tries count a b (Names holder page ∷ []) (the_ok (Unit {0}) tt) → IsReading page (node_at usable pages page) r
     → Tries count a b (read_marks usable pages holder page) r × IfOk r (λ node. node_at usable pages page ≡ Ok node)
 read_last count a b usable pages holder page (Ok node) met is = (
@@ -81,8 +81,8 @@ read_last count a b usable pages holder page (Err (Broken q rule)) met is = (
 )
 read_last count a b usable pages holder page (Err (Space f)) met is = (tt, tt)
 
-pub read_refuses : {P : Type 0} (g : Ghosts P) (a b : P) (page : ℕ) (reading : Result PageCells PageFault) (r : Result PageCells Stop)
-    → g.refusal b ≡ g.refusal a → IsReading page reading r → RefusesStop g a b r
+pub read_refuses : {P : Type 0} (g : Ghosts P) (a b : P) (page : ℕ) (reading : Result PageCells PageFault) (r : Result PageCells Halt)
+    → g.refusal b ≡ g.refusal a → IsReading page reading r → RefusesHalt g a b r
 read_refuses g a b page reading (Ok node) same is = same
 read_refuses g a b page reading (Err (Broken q rule)) same is = same
 read_refuses g a b page reading (Err (Space f)) same is =
@@ -107,15 +107,15 @@ first_at_leaf usable pages (suc m) page node is leaf some =
     let here : is_leaf_page usable pages page ≡ true = ap (has_kind is_leaf) is ∙ leaf in rw here refl
 
 -- the first page of a tree can't be read
-pub unread : (count : ℕ) (a b : ℕ → Bool) (usable : ℕ) (pages : Paging) (holder page : ℕ) (marks : List Mark) (stop : Stop)
+pub unread : (count : ℕ) (a b : ℕ → Bool) (usable : ℕ) (pages : Paging) (holder page : ℕ) (marks : List Mark) (halt : Halt)
     → marks ≡ read_marks usable pages holder page ++ behind_read marks
-    → Tries count a b (read_marks usable pages holder page) (the_err PageCells stop) → Tries count a b marks (the_err ℕ stop)
-unread count a b usable pages holder page marks stop is tried =
-    let P : List Mark → Type 0 = λ ms. Tries count a b ms (the_err ℕ stop) in
-    subst P (sym is) (tries_stop PageCells ℕ count a b b (read_marks usable pages holder page) (behind_read marks) stop tried)
+    → Tries count a b (read_marks usable pages holder page) (the_err PageCells halt) → Tries count a b marks (the_err ℕ halt)
+unread count a b usable pages holder page marks halt is tried =
+    let P : List Mark → Type 0 = λ ms. Tries count a b ms (the_err ℕ halt) in
+    subst P (sym is) (tries_halt PageCells ℕ count a b b (read_marks usable pages holder page) (behind_read marks) halt tried)
 
 -- it is read, and the rest of the tree is tried
-pub from_read : (count now : ℕ) (a b c : ℕ → Bool) (usable : ℕ) (pages : Paging) (holder page : ℕ) (marks : List Mark) (node : PageCells) (r : Result ℕ Stop) → now ≡ count
+pub from_read : (count now : ℕ) (a b c : ℕ → Bool) (usable : ℕ) (pages : Paging) (holder page : ℕ) (marks : List Mark) (node : PageCells) (r : Result ℕ Halt) → now ≡ count
     → marks ≡ read_marks usable pages holder page ++ behind_read marks
     → Tries count a b (read_marks usable pages holder page) (the_ok PageCells node) → Tries now b c (behind_read marks) r → Tries count a c marks r
 from_read count now a b c usable pages holder page marks node r same is read tried =
@@ -124,12 +124,12 @@ from_read count now a b c usable pages holder page marks node r same is read tri
     subst P (sym is) (tries_then {X = PageCells} {Y = ℕ} count a b c (read_marks usable pages holder page) (behind_read marks) node r read (subst Q same tried))
 
 -- the page does not stand well in its tree
-pub misplaced : (count : ℕ) (a : ℕ → Bool) (table : Bool) (usable : ℕ) (pages : Paging) (stand levels page : ℕ) (node : PageCells) (more : List Mark) (stop : Stop)
-    → node_at usable pages page ≡ Ok node → Tries count a a (place_marks table levels stand page node.kind) (the_err (Unit {0}) stop)
-    → Tries count a a (kind_marks table usable pages stand levels page ++ more) (the_err ℕ stop)
-misplaced count a table usable pages stand levels page node more stop is tried =
-    let P : List Mark → Type 0 = λ ms. Tries count a a ms (the_err (Unit {0}) stop) in
-    tries_stop (Unit {0}) ℕ count a a a (kind_marks table usable pages stand levels page) more stop (subst P (sym (placed_are table usable pages stand levels page node is)) tried)
+pub misplaced : (count : ℕ) (a : ℕ → Bool) (table : Bool) (usable : ℕ) (pages : Paging) (stand levels page : ℕ) (node : PageCells) (more : List Mark) (halt : Halt)
+    → node_at usable pages page ≡ Ok node → Tries count a a (place_marks table levels stand page node.kind) (the_err (Unit {0}) halt)
+    → Tries count a a (kind_marks table usable pages stand levels page ++ more) (the_err ℕ halt)
+misplaced count a table usable pages stand levels page node more halt is tried =
+    let P : List Mark → Type 0 = λ ms. Tries count a a ms (the_err (Unit {0}) halt) in
+    tries_halt (Unit {0}) ℕ count a a a (kind_marks table usable pages stand levels page) more halt (subst P (sym (placed_are table usable pages stand levels page node is)) tried)
 
 -- where nothing was got
 pub walked_none : {P : Type 0} (g : Ghosts P) (s : P) (met : Met) → Walked g s s met met

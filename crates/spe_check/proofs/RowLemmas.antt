@@ -12,7 +12,7 @@ use Rattle.spe_model.specs.Record.{record_of}
 use Rattle.spe_model.specs.Schema.{SchemaRow, is_table_row, schema_row, schema_row_of}
 use Rattle.spe_model.specs.Tree.{rank}
 use Rattle.spe_model.specs.Verdict.{LeafRow, before, is_right_row, schema_marks, with_leaf}
-use Rattle.spe_check.specs.declared.stop.Stop.{Stop}
+use Rattle.spe_check.specs.declared.halt.Halt.{Halt}
 use Rattle.spe_check.specs.SchemaRows.{rows_in, placed_of, schema_outlook, floor_of, is_named, is_free}
 use Rattle.spe_check.specs.Visitor.{Outlook}
 
@@ -88,9 +88,9 @@ floor_next old new leaf row rowid more own low =
     let there = floor_more old (leaf, row) (rank rowid + 1) (omega (arith, low)) (omega (arith, same)) in
     subst (λ (ps : List (ℕ × SchemaRow)). floor_of ps ≤ rank rowid + 1) (sym more) there
 
-pub on_ok : {X A B : Type 0} (r : Result X Stop) → (A → B) → OnOk r A → OnOk r B
+pub on_ok : {X A B : Type 0} (r : Result X Halt) → (A → B) → OnOk r A → OnOk r B
 on_ok (Ok x) f a = f a
-on_ok (Err stop) f a = tt
+on_ok (Err halt) f a = tt
 
 -- a row whose record is read is the row of its values
 pub row_read : (rowid : ℤ) (payload : List ℕ) (values : List Value) (found : Option SchemaRow) → record_of payload ≡ Ok values → found ≡ schema_row rowid values

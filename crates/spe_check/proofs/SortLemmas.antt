@@ -11,7 +11,7 @@ use Rattle.spe_model.specs.Page.{is_within, placed_all, apart, ascends, array_en
 use Rattle.spe_model.specs.Paging.{Paging}
 use Rattle.spe_model.specs.Schema.{is_index_kind, is_index_page}
 use Rattle.spe_model.specs.Tree.{node_at, header_end}
-use Rattle.spe_check.specs.declared.stop.Stop.{Stop}
+use Rattle.spe_check.specs.declared.halt.Halt.{Halt}
 use Rattle.spe_check.specs.Pages.{IsReading}
 
 unless_err : (b : Bool) (f : PageFault) (r : Result PageCells PageFault) (node : PageCells) → (if b then Err f else r) ≡ Ok node → r ≡ Ok node
@@ -47,9 +47,9 @@ header_room usable page wide = by_first (page == 1)
     by_first false = omega (arith, wide)
 
 -- what was read tells whether the page is one of an index
-pub read_sort : (usable : ℕ) (pages : Paging) (page : ℕ) (r : Result PageCells Stop) → 480 ≤ usable → IsReading page (node_at usable pages page) r
+pub read_sort : (usable : ℕ) (pages : Paging) (page : ℕ) (r : Result PageCells Halt) → 480 ≤ usable → IsReading page (node_at usable pages page) r
     → IfOk r (λ node. is_index_page pages page ≡ not (is_table node.kind))
 read_sort usable pages page (Ok node) wide is =
     ap (λ b. is_index_kind (kind_of b)) (sym (get_or-take usable (pages page) (header_end page) 0 (header_room usable page wide)))
     ∙ page_sort (take usable (pages page)) (header_end page) node is
-read_sort usable pages page (Err stop) wide is = tt
+read_sort usable pages page (Err halt) wide is = tt

@@ -8,7 +8,7 @@ use Rattle.spe_model.specs.Tree.{node_at, rank}
 use Rattle.spe_model.specs.Verdict.{LeafRow}
 use Rattle.spe_model.specs.Walk.{Mark, Keeps, fan_marks, fan_rows, first_child, is_within_bounds, levels_at_leaf, table_marks, walk_rows}
 use Rattle.spe_check.specs.declared.met.Met.{Met}
-use Rattle.spe_check.specs.declared.stop.Stop.{Stop}
+use Rattle.spe_check.specs.declared.halt.Halt.{Halt}
 use Rattle.spe_check.specs.declared.visitor.RowVisitor as visitors
 use Rattle.spe_check.specs.MetPages.{has_met}
 use Rattle.spe_check.specs.Pages.{IsStand, behind_read, place_marks}
@@ -17,7 +17,7 @@ use Rattle.spe_check.specs.Tries.{Leads, Tries}
 use Rattle.spe_check.specs.Visitor.{Outlook}
 use Rattle.spe_check.proofs.IndexLemmas.{first_open, stand_of}
 use Rattle.spe_check.proofs.TableLemmas.{table_open, rows_open}
-use Rattle.spe_check.proofs.TriesLemmas.{leads_try, leads_stop, leads_last, the_ok, the_err}
+use Rattle.spe_check.proofs.TriesLemmas.{leads_try, leads_halt, leads_last, the_ok, the_err}
 
 -- the page was tried, and its children are left
 pub table_fanned_first : {V : Type 0} (v : visitors.Ghosts V) (usable : ℕ) (pages : Paging) (before : Met) (visitor : V) (later : List LeafRow) (stand levels low high holder page : ℕ) (leaf : Option ℕ) (node : PageCells) → 0 < levels
@@ -93,36 +93,36 @@ table_fanned_next v usable pages before now mid visitor after outlook later all 
     }
 
 -- the key beside a child is out of its bounds
-pub key_stop : {V : Type 0} (v : visitors.Ghosts V) (usable : ℕ) (pages : Paging) (before now mid : Met) (visitor : V) (outlook : Outlook) (later : List LeafRow) (all : List Mark) (stand levels low high page bound level : ℕ) (leaf : Option ℕ) (left rest : List Cell) (cell : Cell) (right : ℕ) (stop : Stop)
+pub key_halt : {V : Type 0} (v : visitors.Ghosts V) (usable : ℕ) (pages : Paging) (before now mid : Met) (visitor : V) (outlook : Outlook) (later : List LeafRow) (all : List Mark) (stand levels low high page bound level : ℕ) (leaf : Option ℕ) (left rest : List Cell) (cell : Cell) (right : ℕ) (halt : Halt)
     → now.pages ≡ before.pages → left ≡ cell ∷ rest → bound ≡ rank cell.key + 1 → IsTableFanned v usable pages before now visitor outlook later all stand levels low high page leaf left right
     → Tries now.pages (has_met now) (has_met mid)
     (table_marks (v.outlook visitor (walk_rows usable pages (levels - 1) cell.left ++ (fan_rows (walk_rows usable pages (levels - 1)) rest right ++ later))).marks usable pages stand (levels - 1) low bound page cell.left) (the_ok ℕ level)
-    → Tries before.pages (has_met mid) (has_met mid) (Keeps page 6 (is_within_bounds low high cell) ∷ []) (the_err (Unit {0}) stop)
-    → Tries before.pages (has_met before) (has_met mid) all (the_err ℕ stop)
-key_stop v usable pages before now mid visitor outlook later all stand levels low high page bound level leaf left rest cell right stop same is to fanned child broke =
-    leads_stop (Unit {0}) ℕ before.pages (has_met before) (has_met mid) (has_met mid) (has_met mid) all (Keeps page 6 (is_within_bounds low high cell) ∷ [])
-    (fan_marks (table_marks outlook.marks usable pages stand (levels - 1)) page (rank cell.key + 1) high rest right) stop
+    → Tries before.pages (has_met mid) (has_met mid) (Keeps page 6 (is_within_bounds low high cell) ∷ []) (the_err (Unit {0}) halt)
+    → Tries before.pages (has_met before) (has_met mid) all (the_err ℕ halt)
+key_halt v usable pages before now mid visitor outlook later all stand levels low high page bound level leaf left rest cell right halt same is to fanned child broke =
+    leads_halt (Unit {0}) ℕ before.pages (has_met before) (has_met mid) (has_met mid) (has_met mid) all (Keeps page 6 (is_within_bounds low high cell) ∷ [])
+    (fan_marks (table_marks outlook.marks usable pages stand (levels - 1)) page (rank cell.key + 1) high rest right) halt
     (child_led v usable pages before now mid visitor outlook later all stand levels low high page bound level leaf left rest cell right same is to fanned child) broke
 
 -- a child breaks a rule
-pub child_stop : {V : Type 0} (v : visitors.Ghosts V) (usable : ℕ) (pages : Paging) (before now mid : Met) (visitor : V) (outlook : Outlook) (later : List LeafRow) (all : List Mark) (stand levels low high page bound : ℕ) (leaf : Option ℕ) (left rest : List Cell) (cell : Cell) (right : ℕ) (stop : Stop)
+pub child_halt : {V : Type 0} (v : visitors.Ghosts V) (usable : ℕ) (pages : Paging) (before now mid : Met) (visitor : V) (outlook : Outlook) (later : List LeafRow) (all : List Mark) (stand levels low high page bound : ℕ) (leaf : Option ℕ) (left rest : List Cell) (cell : Cell) (right : ℕ) (halt : Halt)
     → now.pages ≡ before.pages → left ≡ cell ∷ rest → bound ≡ rank cell.key + 1 → IsTableFanned v usable pages before now visitor outlook later all stand levels low high page leaf left right
     → Tries now.pages (has_met now) (has_met mid)
-    (table_marks (v.outlook visitor (walk_rows usable pages (levels - 1) cell.left ++ (fan_rows (walk_rows usable pages (levels - 1)) rest right ++ later))).marks usable pages stand (levels - 1) low bound page cell.left) (the_err ℕ stop)
-    → Tries before.pages (has_met before) (has_met mid) all (the_err ℕ stop)
-child_stop v usable pages before now mid visitor outlook later all stand levels low high page bound leaf left rest cell right stop same is to fanned child =
+    (table_marks (v.outlook visitor (walk_rows usable pages (levels - 1) cell.left ++ (fan_rows (walk_rows usable pages (levels - 1)) rest right ++ later))).marks usable pages stand (levels - 1) low bound page cell.left) (the_err ℕ halt)
+    → Tries before.pages (has_met before) (has_met mid) all (the_err ℕ halt)
+child_halt v usable pages before now mid visitor outlook later all stand levels low high page bound leaf left rest cell right halt same is to fanned child =
     let walk = table_marks outlook.marks usable pages stand (levels - 1) in
     let here = child_ahead v usable pages before now visitor outlook later all stand levels low high page leaf left rest cell right is fanned in
     let P : List Cell → Type 0 = λ cs. Leads before.pages (has_met before) all (has_met now) (fan_marks walk page low high cs right) in
-    let R : Outlook → Type 0 = λ o. Tries now.pages (has_met now) (has_met mid) (table_marks o.marks usable pages stand (levels - 1) low bound page cell.left) (the_err ℕ stop) in
-    let B : ℕ → Type 0 = λ b. Tries now.pages (has_met now) (has_met mid) (walk low b page cell.left) (the_err ℕ stop) in
-    let Q : ℕ → Type 0 = λ n. Tries n (has_met now) (has_met mid) (walk low (rank cell.key + 1) page cell.left) (the_err ℕ stop) in
-    leads_stop ℕ ℕ before.pages (has_met before) (has_met now) (has_met mid) (has_met mid) all (walk low (rank cell.key + 1) page cell.left)
-    (Keeps page 6 (is_within_bounds low high cell) ∷ fan_marks walk page (rank cell.key + 1) high rest right) stop
+    let R : Outlook → Type 0 = λ o. Tries now.pages (has_met now) (has_met mid) (table_marks o.marks usable pages stand (levels - 1) low bound page cell.left) (the_err ℕ halt) in
+    let B : ℕ → Type 0 = λ b. Tries now.pages (has_met now) (has_met mid) (walk low b page cell.left) (the_err ℕ halt) in
+    let Q : ℕ → Type 0 = λ n. Tries n (has_met now) (has_met mid) (walk low (rank cell.key + 1) page cell.left) (the_err ℕ halt) in
+    leads_halt ℕ ℕ before.pages (has_met before) (has_met now) (has_met mid) (has_met mid) all (walk low (rank cell.key + 1) page cell.left)
+    (Keeps page 6 (is_within_bounds low high cell) ∷ fan_marks walk page (rank cell.key + 1) high rest right) halt
     (subst P is fanned.tried) (subst Q same (subst B to (subst R here child)))
 
 -- the right-most child is the last
-pub table_fanned_last : {V : Type 0} (v : visitors.Ghosts V) (usable : ℕ) (pages : Paging) (before now next : Met) (visitor after : V) (outlook : Outlook) (later : List LeafRow) (all : List Mark) (stand levels low high page : ℕ) (leaf : Option ℕ) (left : List Cell) (right : ℕ) (r : Result ℕ Stop)
+pub table_fanned_last : {V : Type 0} (v : visitors.Ghosts V) (usable : ℕ) (pages : Paging) (before now next : Met) (visitor after : V) (outlook : Outlook) (later : List LeafRow) (all : List Mark) (stand levels low high page : ℕ) (leaf : Option ℕ) (left : List Cell) (right : ℕ) (r : Result ℕ Halt)
     → now.pages ≡ before.pages → length left < 1 → IsTableFanned v usable pages before now visitor outlook later all stand levels low high page leaf left right
     → (IsStand leaf stand (levels_at_leaf usable pages (levels - 1) right)
     → Tries now.pages (has_met now) (has_met next) (table_marks (v.outlook visitor (walk_rows usable pages (levels - 1) right ++ later)).marks usable pages stand (levels - 1) low high page right) r

@@ -9,7 +9,7 @@ use Rattle.spe_model.specs.Tree.{node_at, node_cells, node_right, cells_in, righ
 use Rattle.spe_model.specs.Verdict.{LeafRow}
 use Rattle.spe_model.specs.Walk.{Mark, Keeps, RowMarks, cell_chain, fan_marks, fan_rows, has_kind, is_leaf_page, is_within_bounds, leaf_marks, leaf_rows, table_marks, walk_rows}
 use Rattle.spe_check.specs.declared.met.Met.{Met}
-use Rattle.spe_check.specs.declared.stop.Stop.{Stop}
+use Rattle.spe_check.specs.declared.halt.Halt.{Halt}
 use Rattle.spe_check.specs.declared.visitor.RowVisitor as visitors
 use Rattle.spe_check.specs.Chains.{kept_of}
 use Rattle.spe_check.specs.MetPages.{has_met}
@@ -18,7 +18,7 @@ use Rattle.spe_check.specs.TableTree.{IsRowed, VisitsRow, row_marks, row_of}
 use Rattle.spe_check.specs.Tries.{Leads, Tries}
 use Rattle.spe_check.specs.Visitor.{Outlook}
 use Rattle.spe_check.proofs.PageLemmas.{kind_marks, misplaced, placed_are}
-use Rattle.spe_check.proofs.TriesLemmas.{leads_try, leads_stop, tries_stop, tries_then, the_ok, the_err}
+use Rattle.spe_check.proofs.TriesLemmas.{leads_try, leads_halt, tries_halt, tries_then, the_ok, the_err}
 
 -- the marks of reading the first page come first
 pub table_read : (own : RowMarks) (usable : ℕ) (pages : Paging) (stand levels low high holder page : ℕ)
@@ -77,15 +77,15 @@ rows_leaf usable pages (suc m) page node some is leaf =
     here ∙ ap (λ (cs : List Cell). leaf_rows usable pages page cs) (ap cells_in is)
 
 -- the page itself does not stand well
-pub table_stop : (count : ℕ) (a : ℕ → Bool) (own : RowMarks) (usable : ℕ) (pages : Paging) (stand levels low high holder page : ℕ) (node : PageCells) (stop : Stop) → node_at usable pages page ≡ Ok node
-    → Tries count a a (place_marks true levels stand page node.kind) (the_err (Unit {0}) stop)
-    → Tries count a a (behind_read (table_marks own usable pages stand levels low high holder page)) (the_err ℕ stop)
-table_stop count a own usable pages stand zero low high holder page node stop is tried =
-    misplaced count a true usable pages stand zero page node [] stop is tried
-table_stop count a own usable pages stand (suc m) low high holder page node stop is tried =
+pub table_halt : (count : ℕ) (a : ℕ → Bool) (own : RowMarks) (usable : ℕ) (pages : Paging) (stand levels low high holder page : ℕ) (node : PageCells) (halt : Halt) → node_at usable pages page ≡ Ok node
+    → Tries count a a (place_marks true levels stand page node.kind) (the_err (Unit {0}) halt)
+    → Tries count a a (behind_read (table_marks own usable pages stand levels low high holder page)) (the_err ℕ halt)
+table_halt count a own usable pages stand zero low high holder page node halt is tried =
+    misplaced count a true usable pages stand zero page node [] halt is tried
+table_halt count a own usable pages stand (suc m) low high holder page node halt is tried =
     misplaced count a true usable pages stand (suc m) page node
     (if is_leaf_page usable pages page then leaf_marks own usable pages page low high (node_cells usable pages page)
-    else fan_marks (table_marks own usable pages stand m) page low high (node_cells usable pages page) (node_right usable pages page)) stop is tried
+    else fan_marks (table_marks own usable pages stand m) page low high (node_cells usable pages page) (node_right usable pages page)) halt is tried
 
 -- the first row of a leaf, and the others
 pub leaf_cons : (own : RowMarks) (usable : ℕ) (pages : Paging) (page low high : ℕ) (c : Cell) (cs : List Cell)
@@ -98,7 +98,7 @@ payload_taken true new old given local bytes same first kept is = kept ∙ ap (�
 payload_taken false new old given local bytes same first kept is = absurd cc
 
 -- a row is visited where it is wanted
-pub visits_same : {V : Type 0} (v : visitors.Ghosts V) (visitor after : V) (page : ℕ) (key other : ℤ) (bytes : List ℕ) (r : Result (Unit {0}) Stop) → key ≡ other → v.wanted visitor ≡ true
+pub visits_same : {V : Type 0} (v : visitors.Ghosts V) (visitor after : V) (page : ℕ) (key other : ℤ) (bytes : List ℕ) (r : Result (Unit {0}) Halt) → key ≡ other → v.wanted visitor ≡ true
     → ((count : ℕ) (met : ℕ → Bool) (later : List LeafRow) → v.floor visitor ≤ rank key → Tries count met met ((v.outlook visitor ((page, key, bytes) ∷ later)).marks page key bytes) r)
     → OnOk r ((later : List LeafRow) → v.outlook after later ≡ v.outlook visitor ((page, key, bytes) ∷ later))
     → VisitsRow v visitor after page other bytes r
@@ -110,23 +110,23 @@ visits_same v visitor after page key other bytes r same want tried next =
     subst Q (wanted want) (tried count met later floor, on_ok_weaker r (λ each. each later) next))
 
 -- a row breaks the rule of bounds
-pub bound_stop : (count : ℕ) (a : ℕ → Bool) (own : RowMarks) (usable : ℕ) (pages : Paging) (page low high : ℕ) (c : Cell) (stop : Stop)
-    → Tries count a a (Keeps page 6 (is_within_bounds low high c) ∷ []) (the_err (Unit {0}) stop)
-    → Tries count a a (row_marks own usable pages page low high c) (the_err (Unit {0}) stop)
-bound_stop count a own usable pages page low high c stop broke =
-    tries_stop (Unit {0}) (Unit {0}) count a a a (Keeps page 6 (is_within_bounds low high c) ∷ []) (cell_chain usable pages page c ++ own page c.key (payload_of usable pages c)) stop broke
+pub bound_halt : (count : ℕ) (a : ℕ → Bool) (own : RowMarks) (usable : ℕ) (pages : Paging) (page low high : ℕ) (c : Cell) (halt : Halt)
+    → Tries count a a (Keeps page 6 (is_within_bounds low high c) ∷ []) (the_err (Unit {0}) halt)
+    → Tries count a a (row_marks own usable pages page low high c) (the_err (Unit {0}) halt)
+bound_halt count a own usable pages page low high c halt broke =
+    tries_halt (Unit {0}) (Unit {0}) count a a a (Keeps page 6 (is_within_bounds low high c) ∷ []) (cell_chain usable pages page c ++ own page c.key (payload_of usable pages c)) halt broke
 
 -- its chain breaks one
-pub chain_stop : (count : ℕ) (a b : ℕ → Bool) (own : RowMarks) (usable : ℕ) (pages : Paging) (page low high : ℕ) (c : Cell) (stop : Stop)
+pub chain_halt : (count : ℕ) (a b : ℕ → Bool) (own : RowMarks) (usable : ℕ) (pages : Paging) (page low high : ℕ) (c : Cell) (halt : Halt)
     → Tries count a a (Keeps page 6 (is_within_bounds low high c) ∷ []) (the_ok (Unit {0}) tt)
-    → Tries count a b (cell_chain usable pages page c) (the_err (Unit {0}) stop)
-    → Tries count a b (row_marks own usable pages page low high c) (the_err (Unit {0}) stop)
-chain_stop count a b own usable pages page low high c stop kept broke =
-    tries_then {X = Unit {0}} {Y = Unit {0}} count a a b (Keeps page 6 (is_within_bounds low high c) ∷ []) (cell_chain usable pages page c ++ own page c.key (payload_of usable pages c)) tt (the_err (Unit {0}) stop) kept
-    (tries_stop (Unit {0}) (Unit {0}) count a b b (cell_chain usable pages page c) (own page c.key (payload_of usable pages c)) stop broke)
+    → Tries count a b (cell_chain usable pages page c) (the_err (Unit {0}) halt)
+    → Tries count a b (row_marks own usable pages page low high c) (the_err (Unit {0}) halt)
+chain_halt count a b own usable pages page low high c halt kept broke =
+    tries_then {X = Unit {0}} {Y = Unit {0}} count a a b (Keeps page 6 (is_within_bounds low high c) ∷ []) (cell_chain usable pages page c ++ own page c.key (payload_of usable pages c)) tt (the_err (Unit {0}) halt) kept
+    (tries_halt (Unit {0}) (Unit {0}) count a b b (cell_chain usable pages page c) (own page c.key (payload_of usable pages c)) halt broke)
 
 -- and what the visitor tries of it comes last
-pub row_last : (count : ℕ) (a b : ℕ → Bool) (own : RowMarks) (usable : ℕ) (pages : Paging) (page low high : ℕ) (c : Cell) (r : Result (Unit {0}) Stop)
+pub row_last : (count : ℕ) (a b : ℕ → Bool) (own : RowMarks) (usable : ℕ) (pages : Paging) (page low high : ℕ) (c : Cell) (r : Result (Unit {0}) Halt)
     → Tries count a a (Keeps page 6 (is_within_bounds low high c) ∷ []) (the_ok (Unit {0}) tt)
     → Tries count a b (cell_chain usable pages page c) (the_ok (Unit {0}) tt)
     → Tries count b b (own page c.key (payload_of usable pages c)) r
@@ -170,17 +170,17 @@ row_next v usable pages before now next visitor after outlook later all page low
     }
 
 -- a row breaks a rule
-pub row_stop : {V : Type 0} (v : visitors.Ghosts V) (usable : ℕ) (pages : Paging) (before now next : Met) (visitor : V) (outlook : Outlook) (later : List LeafRow) (all : List Mark) (page low high : ℕ) (left rest : List Cell) (cell : Cell) (stop : Stop)
+pub row_halt : {V : Type 0} (v : visitors.Ghosts V) (usable : ℕ) (pages : Paging) (before now next : Met) (visitor : V) (outlook : Outlook) (later : List LeafRow) (all : List Mark) (page low high : ℕ) (left rest : List Cell) (cell : Cell) (halt : Halt)
     → now.pages ≡ before.pages → left ≡ cell ∷ rest → IsRowed v usable pages before now visitor outlook later all page low high left
     → Tries now.pages (has_met now) (has_met next)
-    (row_marks (v.outlook visitor (row_of usable pages page cell ∷ (leaf_rows usable pages page rest ++ later))).marks usable pages page low high cell) (the_err (Unit {0}) stop)
-    → Tries before.pages (has_met before) (has_met next) all (the_err ℕ stop)
-row_stop v usable pages before now next visitor outlook later all page low high left rest cell stop same is rowed tried =
+    (row_marks (v.outlook visitor (row_of usable pages page cell ∷ (leaf_rows usable pages page rest ++ later))).marks usable pages page low high cell) (the_err (Unit {0}) halt)
+    → Tries before.pages (has_met before) (has_met next) all (the_err ℕ halt)
+row_halt v usable pages before now next visitor outlook later all page low high left rest cell halt same is rowed tried =
     let here = row_ahead v usable pages before now visitor outlook later all page low high left rest cell is rowed in
-    let R : Outlook → Type 0 = λ o. Tries now.pages (has_met now) (has_met next) (row_marks o.marks usable pages page low high cell) (the_err (Unit {0}) stop) in
-    let Q : ℕ → Type 0 = λ n. Tries n (has_met now) (has_met next) (row_marks outlook.marks usable pages page low high cell) (the_err (Unit {0}) stop) in
-    leads_stop (Unit {0}) ℕ before.pages (has_met before) (has_met now) (has_met next) (has_met next) all (row_marks outlook.marks usable pages page low high cell)
-    (leaf_marks outlook.marks usable pages page (rank cell.key + 1) high rest) stop
+    let R : Outlook → Type 0 = λ o. Tries now.pages (has_met now) (has_met next) (row_marks o.marks usable pages page low high cell) (the_err (Unit {0}) halt) in
+    let Q : ℕ → Type 0 = λ n. Tries n (has_met now) (has_met next) (row_marks outlook.marks usable pages page low high cell) (the_err (Unit {0}) halt) in
+    leads_halt (Unit {0}) ℕ before.pages (has_met before) (has_met now) (has_met next) (has_met next) all (row_marks outlook.marks usable pages page low high cell)
+    (leaf_marks outlook.marks usable pages page (rank cell.key + 1) high rest) halt
     (row_front v usable pages before now visitor outlook later all page low high left rest cell is rowed) (subst Q same (subst R here tried))
 
 -- the same rows are left from the same bound on
@@ -200,7 +200,7 @@ rows_end v usable pages before now visitor outlook later all page low high level
 rows_end v usable pages before now visitor outlook later all page low high level (c ∷ cs) none rowed = absurd (omega (arith, none))
 
 -- a leaf, whose rows are tried
-pub rows_last : {V : Type 0} (v : visitors.Ghosts V) (usable : ℕ) (pages : Paging) (before next : Met) (visitor after : V) (later : List LeafRow) (stand levels low high holder page at : ℕ) (node : PageCells) (r : Result ℕ Stop) → 0 < levels
+pub rows_last : {V : Type 0} (v : visitors.Ghosts V) (usable : ℕ) (pages : Paging) (before next : Met) (visitor after : V) (later : List LeafRow) (stand levels low high holder page at : ℕ) (node : PageCells) (r : Result ℕ Halt) → 0 < levels
     → node_at usable pages page ≡ Ok node → is_leaf node.kind ≡ true → stand ≡ at
     → Tries before.pages (has_met before) (has_met before) (place_marks true levels stand page node.kind) (the_ok (Unit {0}) tt)
     → Tries before.pages (has_met before) (has_met next) (leaf_marks (v.outlook visitor (leaf_rows usable pages page node.cells ++ later)).marks usable pages page low high node.cells) r
@@ -222,6 +222,6 @@ rows_last v usable pages before next visitor after later stand levels low high h
       rows.1,
     )
   where
-    levelled : (r : Result ℕ Stop) → IfOk r (λ level. level ≡ at) → IfOk r (λ level. stand ≡ level)
+    levelled : (r : Result ℕ Halt) → IfOk r (λ level. level ≡ at) → IfOk r (λ level. stand ≡ level)
     levelled (Ok l) e = stands ∙ sym e
-    levelled (Err stop) e = tt
+    levelled (Err halt) e = tt

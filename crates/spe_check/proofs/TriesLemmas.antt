@@ -2,14 +2,14 @@ use Rattle.std.proofs.Common.{◌≡◌, ◌∙◌, ℕ, Bool, true, false, List
 use Rattle.spe_model.specs.Walk.{Mark, Names, Keeps, is_one_of}
 use Rattle.std.specs.Prelude.{Result, Ok, Err}
 use Rattle.spe_check.specs.Tries.{broken, with_page, Leads, Passes, Breaks, Tries}
-use Rattle.spe_check.specs.declared.stop.Stop.{Stop}
-use Rattle.spe_check.specs.declared.stop.Stop.TheVariants.{Broken, Space}
+use Rattle.spe_check.specs.declared.halt.Halt.{Halt}
+use Rattle.spe_check.specs.declared.halt.Halt.TheVariants.{Broken, Space}
 
-abbrev pub the_ok : (X : Type 0) → X → Result X Stop
+abbrev pub the_ok : (X : Type 0) → X → Result X Halt
 the_ok X x = Ok x
 
-abbrev pub the_err : (X : Type 0) → Stop → Result X Stop
-the_err X stop = Err stop
+abbrev pub the_err : (X : Type 0) → Halt → Result X Halt
+the_err X halt = Err halt
 
 pub leads_first : (count : ℕ) (met : ℕ → Bool) (all : List Mark) → Leads count met all met all
 leads_first count met all more = refl
@@ -50,16 +50,16 @@ pub names_twice : (count : ℕ) (before : ℕ → Bool) (holder page : ℕ) → 
 names_twice count before holder page one twice more = rw (one, twice) refl
 
 -- one part of a walk after another
-pub tries_then : {X Y : Type 0} (count : ℕ) (a b c : ℕ → Bool) (first second : List Mark) (x : X) (r : Result Y Stop)
+pub tries_then : {X Y : Type 0} (count : ℕ) (a b c : ℕ → Bool) (first second : List Mark) (x : X) (r : Result Y Halt)
     → Tries count a b first (the_ok X x) → Tries count b c second r → Tries count a c (first ++ second) r
 tries_then count a b c first second x (Ok y) passed next = λ more. ap (broken count a) (append_assoc first second more) ∙ passed (second ++ more) ∙ next more
 tries_then count a b c first second x (Err (Broken page rule)) passed next = λ more. ap (broken count a) (append_assoc first second more) ∙ passed (second ++ more) ∙ next more
 tries_then count a b c first second x (Err (Space f)) passed next = tt
 
-pub tries_stop : (X Y : Type 0) (count : ℕ) (a b c : ℕ → Bool) (first second : List Mark) (stop : Stop)
-    → Tries count a b first (the_err X stop) → Tries count a c (first ++ second) (the_err Y stop)
-tries_stop X Y count a b c first second (Broken page rule) broke = λ more. ap (broken count a) (append_assoc first second more) ∙ broke (second ++ more)
-tries_stop X Y count a b c first second (Space f) broke = tt
+pub tries_halt : (X Y : Type 0) (count : ℕ) (a b c : ℕ → Bool) (first second : List Mark) (halt : Halt)
+    → Tries count a b first (the_err X halt) → Tries count a c (first ++ second) (the_err Y halt)
+tries_halt X Y count a b c first second (Broken page rule) broke = λ more. ap (broken count a) (append_assoc first second more) ∙ broke (second ++ more)
+tries_halt X Y count a b c first second (Space f) broke = tt
 
 -- in a loop
 pub leads_try : (X : Type 0) (count : ℕ) (a b c : ℕ → Bool) (all some left : List Mark) (x : X)
@@ -67,21 +67,21 @@ pub leads_try : (X : Type 0) (count : ℕ) (a b c : ℕ → Bool) (all some left
 leads_try X count a b c all some left x led passed more =
     led more ∙ ap (broken count b) (append_assoc some left more) ∙ passed (left ++ more)
 
-pub leads_stop : (X Y : Type 0) (count : ℕ) (a b c d : ℕ → Bool) (all some left : List Mark) (stop : Stop)
-    → Leads count a all b (some ++ left) → Tries count b c some (the_err X stop) → Tries count a d all (the_err Y stop)
-leads_stop X Y count a b c d all some left (Broken page rule) led broke =
+pub leads_halt : (X Y : Type 0) (count : ℕ) (a b c d : ℕ → Bool) (all some left : List Mark) (halt : Halt)
+    → Leads count a all b (some ++ left) → Tries count b c some (the_err X halt) → Tries count a d all (the_err Y halt)
+leads_halt X Y count a b c d all some left (Broken page rule) led broke =
     λ more. led more ∙ ap (broken count b) (append_assoc some left more) ∙ broke (left ++ more)
-leads_stop X Y count a b c d all some left (Space f) led broke = tt
+leads_halt X Y count a b c d all some left (Space f) led broke = tt
 
 -- the last part of a loop
-pub leads_last : {X : Type 0} (count : ℕ) (a b c : ℕ → Bool) (all some : List Mark) (r : Result X Stop)
+pub leads_last : {X : Type 0} (count : ℕ) (a b c : ℕ → Bool) (all some : List Mark) (r : Result X Halt)
     → Leads count a all b some → Tries count b c some r → Tries count a c all r
 leads_last count a b c all some (Ok x) led tried = λ more. led more ∙ tried more
 leads_last count a b c all some (Err (Broken page rule)) led tried = λ more. led more ∙ tried more
 leads_last count a b c all some (Err (Space f)) led tried = tt
 
--- where a walk stops, what it would have answered is no matter
-pub stops_same : (X Y : Type 0) (count : ℕ) (a b : ℕ → Bool) (marks : List Mark) (stop : Stop)
-    → Tries count a b marks (the_err X stop) → Tries count a b marks (the_err Y stop)
-stops_same X Y count a b marks (Broken page rule) broke = broke
-stops_same X Y count a b marks (Space f) broke = tt
+-- where a walk halts, what it would have answered is no matter
+pub halts_same : (X Y : Type 0) (count : ℕ) (a b : ℕ → Bool) (marks : List Mark) (halt : Halt)
+    → Tries count a b marks (the_err X halt) → Tries count a b marks (the_err Y halt)
+halts_same X Y count a b marks (Broken page rule) broke = broke
+halts_same X Y count a b marks (Space f) broke = tt

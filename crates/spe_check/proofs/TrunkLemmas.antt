@@ -7,12 +7,12 @@ use Rattle.spe_model.specs.Journal.{numbers_from}
 use Rattle.spe_model.specs.Paging.{Paging}
 use Rattle.spe_model.specs.Walk.{Mark, Names, Keeps, trunk_marks, walk_trunks}
 use Rattle.spe_check.specs.declared.met.Met.{Met}
-use Rattle.spe_check.specs.declared.stop.Stop.{Stop}
+use Rattle.spe_check.specs.declared.halt.Halt.{Halt}
 use Rattle.spe_check.specs.declared.trunk.Trunk.{Trunk}
 use Rattle.spe_check.specs.MetPages.{has_met}
 use Rattle.spe_check.specs.Trunks.{leaves_in, room_marks, trunk_and_leaves, IsTrunkOf, IsAmong, TriesTrunkBytes}
 use Rattle.spe_check.specs.Tries.{Leads, Tries}
-use Rattle.spe_check.proofs.TriesLemmas.{leads_try, leads_stop, leads_last, tries_stop, tries_then, the_ok, the_err}
+use Rattle.spe_check.proofs.TriesLemmas.{leads_try, leads_halt, leads_last, tries_halt, tries_then, the_ok, the_err}
 
 -- the pages from one on
 abbrev pub leaves_from : (trunk : ℕ) → List ℕ → (index count : ℕ) → List Mark
@@ -34,14 +34,14 @@ leaves_more count pages now a b c trunk bytes index less same led tried =
     leads_try (Unit {0}) pages a b c (map (Names trunk) (leaves_in bytes count)) (Names trunk (u32_at bytes (8 + 4 * index)) ∷ []) (leaves_from trunk bytes (index + 1) count) tt
     (subst P (leaves_step trunk bytes index count less) led) (subst Q same tried)
 
-pub leaves_stop : (count pages now : ℕ) (a b c : ℕ → Bool) (trunk : ℕ) (bytes : List ℕ) (index : ℕ) (stop : Stop) → index < count → now ≡ pages
+pub leaves_halt : (count pages now : ℕ) (a b c : ℕ → Bool) (trunk : ℕ) (bytes : List ℕ) (index : ℕ) (halt : Halt) → index < count → now ≡ pages
     → Leads pages a (map (Names trunk) (leaves_in bytes count)) b (leaves_from trunk bytes index count)
-    → Tries now b c (Names trunk (u32_at bytes (8 + 4 * index)) ∷ []) (the_err (Unit {0}) stop)
-    → Tries pages a c (map (Names trunk) (leaves_in bytes count)) (the_err (Unit {0}) stop)
-leaves_stop count pages now a b c trunk bytes index stop less same led tried =
+    → Tries now b c (Names trunk (u32_at bytes (8 + 4 * index)) ∷ []) (the_err (Unit {0}) halt)
+    → Tries pages a c (map (Names trunk) (leaves_in bytes count)) (the_err (Unit {0}) halt)
+leaves_halt count pages now a b c trunk bytes index halt less same led tried =
     let P : List Mark → Type 0 = λ left. Leads pages a (map (Names trunk) (leaves_in bytes count)) b left in
-    let Q : ℕ → Type 0 = λ n. Tries n b c (Names trunk (u32_at bytes (8 + 4 * index)) ∷ []) (the_err (Unit {0}) stop) in
-    leads_stop (Unit {0}) (Unit {0}) pages a b c c (map (Names trunk) (leaves_in bytes count)) (Names trunk (u32_at bytes (8 + 4 * index)) ∷ []) (leaves_from trunk bytes (index + 1) count) stop
+    let Q : ℕ → Type 0 = λ n. Tries n b c (Names trunk (u32_at bytes (8 + 4 * index)) ∷ []) (the_err (Unit {0}) halt) in
+    leads_halt (Unit {0}) (Unit {0}) pages a b c c (map (Names trunk) (leaves_in bytes count)) (Names trunk (u32_at bytes (8 + 4 * index)) ∷ []) (leaves_from trunk bytes (index + 1) count) halt
     (subst P (leaves_step trunk bytes index count less) led) (subst Q same tried)
 
 pub leaves_end : (count pages : ℕ) (a b : ℕ → Bool) (trunk : ℕ) (bytes : List ℕ)
@@ -53,13 +53,13 @@ leaves_end count pages a b trunk bytes led =
     subst P none led
 
 -- the rule of a trunk's room, and then its leaves
-pub room_stop : (count : ℕ) (a : ℕ → Bool) (trunk usable : ℕ) (bytes : List ℕ) (room : Bool) (stop : Stop) → room ≡ nat_le (u32_at bytes 4) (usable / 4 - 2)
-    → Tries count a a (Keeps trunk 10 room ∷ []) (the_err (Unit {0}) stop) → Tries count a a (room_marks usable trunk bytes) (the_err Trunk stop)
-room_stop count a trunk usable bytes room stop is tried =
-    let P : Bool → Type 0 = λ b. Tries count a a (Keeps trunk 10 b ∷ []) (the_err (Unit {0}) stop) in
-    tries_stop (Unit {0}) Trunk count a a a (Keeps trunk 10 (nat_le (u32_at bytes 4) (usable / 4 - 2)) ∷ []) (map (Names trunk) (leaves_in bytes (u32_at bytes 4))) stop (subst P is tried)
+pub room_halt : (count : ℕ) (a : ℕ → Bool) (trunk usable : ℕ) (bytes : List ℕ) (room : Bool) (halt : Halt) → room ≡ nat_le (u32_at bytes 4) (usable / 4 - 2)
+    → Tries count a a (Keeps trunk 10 room ∷ []) (the_err (Unit {0}) halt) → Tries count a a (room_marks usable trunk bytes) (the_err Trunk halt)
+room_halt count a trunk usable bytes room halt is tried =
+    let P : Bool → Type 0 = λ b. Tries count a a (Keeps trunk 10 b ∷ []) (the_err (Unit {0}) halt) in
+    tries_halt (Unit {0}) Trunk count a a a (Keeps trunk 10 (nat_le (u32_at bytes 4) (usable / 4 - 2)) ∷ []) (map (Names trunk) (leaves_in bytes (u32_at bytes 4))) halt (subst P is tried)
 
-pub room_then : (count : ℕ) (a b : ℕ → Bool) (trunk usable leaves : ℕ) (bytes : List ℕ) (room : Bool) (r : Result Trunk Stop) → room ≡ nat_le leaves (usable / 4 - 2) → leaves ≡ u32_at bytes 4
+pub room_then : (count : ℕ) (a b : ℕ → Bool) (trunk usable leaves : ℕ) (bytes : List ℕ) (room : Bool) (r : Result Trunk Halt) → room ≡ nat_le leaves (usable / 4 - 2) → leaves ≡ u32_at bytes 4
     → Tries count a a (Keeps trunk 10 room ∷ []) (the_ok (Unit {0}) tt) → Tries count a b (map (Names trunk) (leaves_in bytes leaves)) r
     → Tries count a b (room_marks usable trunk bytes) r
 room_then count a b trunk usable leaves bytes room r is same tried next =
@@ -68,7 +68,7 @@ room_then count a b trunk usable leaves bytes room r is same tried next =
     subst Q same (tries_then {X = Unit {0}} {Y = Trunk} count a a b (Keeps trunk 10 (nat_le leaves (usable / 4 - 2)) ∷ []) (map (Names trunk) (leaves_in bytes leaves)) tt r (subst P is tried) next)
 
 -- a trunk is met, and then its bytes are tried
-pub trunk_last : (before now later : Met) (usable size : ℕ) (pages : Paging) (holder trunk : ℕ) (bytes : List ℕ) (r : Result Trunk Stop)
+pub trunk_last : (before now later : Met) (usable size : ℕ) (pages : Paging) (holder trunk : ℕ) (bytes : List ℕ) (r : Result Trunk Halt)
     → now.pages ≡ before.pages → size ≡ usable → bytes ≡ pages trunk
     → Tries before.pages (has_met before) (has_met now) (Names holder trunk ∷ []) (the_ok (Unit {0}) tt) → TriesTrunkBytes now later trunk size bytes r
     → Tries before.pages (has_met before) (has_met later) (trunk_and_leaves usable pages holder trunk) r × IfOk r (IsTrunkOf (pages trunk))
@@ -129,15 +129,15 @@ among_next usable pages before now later holder first free most at trunk found o
     let R : ℕ → Type 0 = λ n. IsAmong usable pages before later holder first (free + (1 + found.leaves)) (most - 1) trunk n in
     subst R (sym is.0) (record { tried = led; counted = counted })
 
-pub among_stop : (usable : ℕ) (pages : Paging) (before now later : Met) (holder first free most at trunk : ℕ) (stop : Stop) → trunk ≢ 0 → 0 < most → now.pages ≡ before.pages
+pub among_halt : (usable : ℕ) (pages : Paging) (before now later : Met) (holder first free most at trunk : ℕ) (halt : Halt) → trunk ≢ 0 → 0 < most → now.pages ≡ before.pages
     → IsAmong usable pages before now holder first free most at trunk
-    → Tries now.pages (has_met now) (has_met later) (trunk_and_leaves usable pages at trunk) (the_err Trunk stop)
-    → Tries before.pages (has_met before) (has_met later) (trunk_marks usable pages before.pages holder first) (the_err ℕ stop)
-among_stop usable pages before now later holder first free most at trunk stop other some same among tried =
+    → Tries now.pages (has_met now) (has_met later) (trunk_and_leaves usable pages at trunk) (the_err Trunk halt)
+    → Tries before.pages (has_met before) (has_met later) (trunk_marks usable pages before.pages holder first) (the_err ℕ halt)
+among_halt usable pages before now later holder first free most at trunk halt other some same among tried =
     let P : List Mark → Type 0 = λ left. Leads before.pages (has_met before) (trunk_marks usable pages before.pages holder first) (has_met now) left in
-    let Q : ℕ → Type 0 = λ n. Tries n (has_met now) (has_met later) (trunk_and_leaves usable pages at trunk) (the_err Trunk stop) in
-    leads_stop Trunk ℕ before.pages (has_met before) (has_met now) (has_met later) (has_met later) (trunk_marks usable pages before.pages holder first) (trunk_and_leaves usable pages at trunk)
-    (trunk_marks usable pages (most - 1) trunk (next_trunk pages trunk)) stop (subst P (marks_step usable pages most at trunk other some) among.tried) (subst Q same tried)
+    let Q : ℕ → Type 0 = λ n. Tries n (has_met now) (has_met later) (trunk_and_leaves usable pages at trunk) (the_err Trunk halt) in
+    leads_halt Trunk ℕ before.pages (has_met before) (has_met now) (has_met later) (has_met later) (trunk_marks usable pages before.pages holder first) (trunk_and_leaves usable pages at trunk)
+    (trunk_marks usable pages (most - 1) trunk (next_trunk pages trunk)) halt (subst P (marks_step usable pages most at trunk other some) among.tried) (subst Q same tried)
 
 -- the chain has ended
 pub among_end : (usable : ℕ) (pages : Paging) (before now : Met) (holder first free most at trunk : ℕ) → trunk ≡ 0 → IsAmong usable pages before now holder first free most at trunk
@@ -154,7 +154,7 @@ among_end usable pages before now holder first free most at trunk none among =
     go (suc n) led counted = (led, omega (arith, counted))
 
 -- as many trunks as pages were met, and one more is named
-pub among_full : (usable : ℕ) (pages : Paging) (before now later : Met) (holder first free at trunk : ℕ) (r : Result ℕ Stop) → trunk ≢ 0 → now.pages ≡ before.pages
+pub among_full : (usable : ℕ) (pages : Paging) (before now later : Met) (holder first free at trunk : ℕ) (r : Result ℕ Halt) → trunk ≢ 0 → now.pages ≡ before.pages
     → IsAmong usable pages before now holder first free 0 at trunk → Tries now.pages (has_met now) (has_met later) (Names at trunk ∷ []) r
     → Tries before.pages (has_met before) (has_met later) (trunk_marks usable pages before.pages holder first) r × (free ≡ length (walk_trunks pages before.pages first))
 among_full usable pages before now later holder first free at trunk r other same among tried =

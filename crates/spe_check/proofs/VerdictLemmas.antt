@@ -21,8 +21,8 @@ use Rattle.spe_verdict.specs.Law.{StandsIsTrue}
 use Rattle.spe_verdict.proofs.HeaderLemmas.{legal_usable}
 use Rattle.spe_check.specs.Shown.{Shows}
 use Rattle.spe_check.specs.declared.met.Met.{Met}
-use Rattle.spe_check.specs.declared.stop.Stop.{Stop}
-use Rattle.spe_check.specs.declared.stop.Stop.TheVariants.{Broken}
+use Rattle.spe_check.specs.declared.halt.Halt.{Halt}
+use Rattle.spe_check.specs.declared.halt.Halt.TheVariants.{Broken}
 use Rattle.spe_check.specs.MetPages.{has_met}
 use Rattle.spe_check.specs.Objects.{rows_of_open}
 use Rattle.spe_check.specs.RecordRows.{saturated}
@@ -30,7 +30,7 @@ use Rattle.spe_check.specs.SchemaRows.{floor_of, placed_of, rows_in, schema_outl
 use Rattle.spe_check.specs.Tries.{broken, Breaks, Passes, Tries}
 use Rattle.spe_check.specs.Verdicts.{counted, narrowed, schema_tree, tables_among, with_row}
 use Rattle.spe_check.specs.Visitor.{Outlook}
-use Rattle.spe_check.proofs.TriesLemmas.{stops_same, tries_stop, tries_then, the_ok, the_err}
+use Rattle.spe_check.proofs.TriesLemmas.{halts_same, tries_halt, tries_then, the_ok, the_err}
 
 -- the pages that were met, as a list and as a test of page numbers
 pub same_broken : (count : ℕ) (met : List ℕ) (marks : List Mark) → broken count (is_met met) marks ≡ first_broken count met marks
@@ -81,7 +81,7 @@ placed_are usable pages levels old levels_are none =
     ap (λ xs. xs ++ placed_of (walk_rows usable pages levels 1 ++ [])) none ∙ ap placed_of (append-nil (walk_rows usable pages levels 1)) ∙ ap (λ l. placed_of (walk_rows usable pages l 1)) levels_are
 
 -- the tree of the schema was walked
-pub schema_tried : (usable : ℕ) (pages : Paging) (before after : Met) (levels : ℕ) (old new : List (ℕ × SchemaRow)) (r : Result ℕ Stop) → levels ≡ tree_levels → old ≡ []
+pub schema_tried : (usable : ℕ) (pages : Paging) (before after : Met) (levels : ℕ) (old new : List (ℕ × SchemaRow)) (r : Result ℕ Halt) → levels ≡ tree_levels → old ≡ []
     → ((stand : ℕ) (later : List LeafRow) → stand ≡ levels_at_leaf usable pages levels 1 → floor_of old ≤ 0
     → Tries before.pages (has_met before) (has_met after) (table_marks (schema_outlook old (walk_rows usable pages levels 1 ++ later)).marks usable pages stand levels 0 18446744073709551616 1 1) r
     × IfOk r (λ level. stand ≡ level) × OnOk r (schema_outlook new later ≡ schema_outlook old (walk_rows usable pages levels 1 ++ later)))
@@ -95,9 +95,9 @@ schema_tried usable pages before after levels old new r levels_are none walked =
     (table_marks (schema_marks (schema_rows usable pages)) usable pages (levels_at_leaf usable pages l 1) l 0 18446744073709551616 1 1) r in
     (subst L levels_are (subst X (placed_are usable pages levels old levels_are none) found.0), kept r found.2)
   where
-    kept : (r : Result ℕ Stop) → OnOk r (schema_outlook new [] ≡ schema_outlook old (walk_rows usable pages levels 1 ++ [])) → OnOk r (new ≡ placed_rows usable pages)
+    kept : (r : Result ℕ Halt) → OnOk r (schema_outlook new [] ≡ schema_outlook old (walk_rows usable pages levels 1 ++ [])) → OnOk r (new ≡ placed_rows usable pages)
     kept (Ok x) same = sym (append-nil new) ∙ ap (λ (o : Outlook). o.placed) same ∙ placed_are usable pages levels old levels_are none
-    kept (Err stop) same = tt
+    kept (Err halt) same = tt
 
 -- the marks of all, by their three parts
 abbrev objects_marks : (usable : ℕ) (pages : Paging) → List Mark
@@ -107,20 +107,20 @@ all_parts : (usable count : ℕ) (pages : Paging) → all_marks usable count pag
 unfolding all_marks
 all_parts usable count pages = refl
 
--- the walk stops before the free lists
-trees_stop : (Y : Type 0) (usable count : ℕ) (pages : Paging) (a b : ℕ → Bool) (stop : Stop) → Tries count a b (schema_tree usable pages ++ objects_marks usable pages) (the_err Y stop)
-    → Tries count a b (all_marks usable count pages) (the_err Y stop)
-trees_stop Y usable count pages a b stop tried =
-    subst (λ marks. Tries count a b marks (the_err Y stop)) (sym (all_parts usable count pages))
-    (tries_stop Y Y count a b b (schema_tree usable pages ++ objects_marks usable pages) (free_marks usable count pages) stop tried)
+-- the walk halts before the free lists
+trees_halt : (Y : Type 0) (usable count : ℕ) (pages : Paging) (a b : ℕ → Bool) (halt : Halt) → Tries count a b (schema_tree usable pages ++ objects_marks usable pages) (the_err Y halt)
+    → Tries count a b (all_marks usable count pages) (the_err Y halt)
+trees_halt Y usable count pages a b halt tried =
+    subst (λ marks. Tries count a b marks (the_err Y halt)) (sym (all_parts usable count pages))
+    (tries_halt Y Y count a b b (schema_tree usable pages ++ objects_marks usable pages) (free_marks usable count pages) halt tried)
 
--- it stops in the tree of the schema
-pub schema_stop : (X Y : Type 0) (usable count : ℕ) (pages : Paging) (a b : ℕ → Bool) (stop : Stop) → Tries count a b (schema_tree usable pages) (the_err X stop) → Tries count a b (all_marks usable count pages) (the_err Y stop)
-schema_stop X Y usable count pages a b stop tried =
-    trees_stop Y usable count pages a b stop (tries_stop X Y count a b b (schema_tree usable pages) (objects_marks usable pages) stop tried)
+-- it halts in the tree of the schema
+pub schema_halt : (X Y : Type 0) (usable count : ℕ) (pages : Paging) (a b : ℕ → Bool) (halt : Halt) → Tries count a b (schema_tree usable pages) (the_err X halt) → Tries count a b (all_marks usable count pages) (the_err Y halt)
+schema_halt X Y usable count pages a b halt tried =
+    trees_halt Y usable count pages a b halt (tries_halt X Y count a b b (schema_tree usable pages) (objects_marks usable pages) halt tried)
 
 -- the trees of objects are tried behind that of the schema
-with_objects : {Y : Type 0} (usable : ℕ) (pages : Paging) (before now later : Met) (placed : List (ℕ × SchemaRow)) (r : Result Y Stop) → now.pages ≡ before.pages → placed ≡ placed_rows usable pages
+with_objects : {Y : Type 0} (usable : ℕ) (pages : Paging) (before now later : Met) (placed : List (ℕ × SchemaRow)) (r : Result Y Halt) → now.pages ≡ before.pages → placed ≡ placed_rows usable pages
     → Passes before.pages (has_met before) (has_met now) (schema_tree usable pages)
     → Tries now.pages (has_met now) (has_met later) (flat_map (object_marks usable pages) placed) r
     → Tries before.pages (has_met before) (has_met later) (schema_tree usable pages ++ objects_marks usable pages) r
@@ -129,18 +129,18 @@ with_objects usable pages before now later placed r same is passed tried =
     let N : ℕ → Type 0 = λ n. Tries n (has_met now) (has_met later) (objects_marks usable pages) r in
     tries_then {X = Unit {0}} before.pages (has_met before) (has_met now) (has_met later) (schema_tree usable pages) (objects_marks usable pages) tt r passed (subst N same (subst P is tried))
 
--- it stops in the tree of an object
-pub objects_stop : (X Y : Type 0) (usable : ℕ) (pages : Paging) (before now later : Met) (placed : List (ℕ × SchemaRow)) (stop : Stop) → now.pages ≡ before.pages → placed ≡ placed_rows usable pages
+-- it halts in the tree of an object
+pub objects_halt : (X Y : Type 0) (usable : ℕ) (pages : Paging) (before now later : Met) (placed : List (ℕ × SchemaRow)) (halt : Halt) → now.pages ≡ before.pages → placed ≡ placed_rows usable pages
     → Passes before.pages (has_met before) (has_met now) (schema_tree usable pages)
-    → Tries now.pages (has_met now) (has_met later) (flat_map (object_marks usable pages) placed) (the_err X stop)
-    → Tries before.pages (has_met before) (has_met later) (all_marks usable before.pages pages) (the_err Y stop)
-objects_stop X Y usable pages before now later placed stop same is passed tried =
-    trees_stop Y usable before.pages pages (has_met before) (has_met later) stop
-    (with_objects usable pages before now later placed (the_err Y stop) same is passed
-    (stops_same X Y now.pages (has_met now) (has_met later) (flat_map (object_marks usable pages) placed) stop tried))
+    → Tries now.pages (has_met now) (has_met later) (flat_map (object_marks usable pages) placed) (the_err X halt)
+    → Tries before.pages (has_met before) (has_met later) (all_marks usable before.pages pages) (the_err Y halt)
+objects_halt X Y usable pages before now later placed halt same is passed tried =
+    trees_halt Y usable before.pages pages (has_met before) (has_met later) halt
+    (with_objects usable pages before now later placed (the_err Y halt) same is passed
+    (halts_same X Y now.pages (has_met now) (has_met later) (flat_map (object_marks usable pages) placed) halt tried))
 
 -- the free lists come last
-free_last : {Y : Type 0} (usable : ℕ) (pages : Paging) (before now later last : Met) (placed : List (ℕ × SchemaRow)) (r : Result Y Stop) → now.pages ≡ before.pages → later.pages ≡ before.pages
+free_last : {Y : Type 0} (usable : ℕ) (pages : Paging) (before now later last : Met) (placed : List (ℕ × SchemaRow)) (r : Result Y Halt) → now.pages ≡ before.pages → later.pages ≡ before.pages
     → placed ≡ placed_rows usable pages → Passes before.pages (has_met before) (has_met now) (schema_tree usable pages)
     → Passes now.pages (has_met now) (has_met later) (flat_map (object_marks usable pages) placed)
     → Tries later.pages (has_met later) (has_met last) (free_marks usable later.pages pages) r
@@ -159,14 +159,14 @@ pub all_passed : (usable : ℕ) (pages : Paging) (before now later last : Met) (
 all_passed usable pages before now later last placed same same_later is passed objects tried =
     free_last {Y = Unit {0}} usable pages before now later last placed (the_ok (Unit {0}) tt) same same_later is passed objects tried
 
-pub free_stop : (usable : ℕ) (pages : Paging) (before now later last : Met) (placed : List (ℕ × SchemaRow)) (stop : Stop) → now.pages ≡ before.pages → later.pages ≡ before.pages
+pub free_halt : (usable : ℕ) (pages : Paging) (before now later last : Met) (placed : List (ℕ × SchemaRow)) (halt : Halt) → now.pages ≡ before.pages → later.pages ≡ before.pages
     → placed ≡ placed_rows usable pages → Passes before.pages (has_met before) (has_met now) (schema_tree usable pages)
     → Passes now.pages (has_met now) (has_met later) (flat_map (object_marks usable pages) placed)
-    → Tries later.pages (has_met later) (has_met last) (free_marks usable later.pages pages) (the_err ℕ stop)
-    → Tries before.pages (has_met before) (has_met last) (all_marks usable before.pages pages) (the_err Verdict stop)
-free_stop usable pages before now later last placed stop same same_later is passed objects tried =
-    free_last {Y = Verdict} usable pages before now later last placed (the_err Verdict stop) same same_later is passed objects
-    (stops_same ℕ Verdict later.pages (has_met later) (has_met last) (free_marks usable later.pages pages) stop tried)
+    → Tries later.pages (has_met later) (has_met last) (free_marks usable later.pages pages) (the_err ℕ halt)
+    → Tries before.pages (has_met before) (has_met last) (all_marks usable before.pages pages) (the_err Verdict halt)
+free_halt usable pages before now later last placed halt same same_later is passed objects tried =
+    free_last {Y = Verdict} usable pages before now later last placed (the_err Verdict halt) same same_later is passed objects
+    (halts_same ℕ Verdict later.pages (has_met later) (has_met last) (free_marks usable later.pages pages) halt tried)
 
 -- what was counted
 pub all_counted : (usable : ℕ) (pages : Paging) (count later tables rows found free : ℕ) (placed : List (ℕ × SchemaRow)) → later ≡ count → placed ≡ placed_rows usable pages
@@ -235,8 +235,8 @@ checked_sound usable now count pages none after header verdict stands tables_few
     counts ∙ ap (λ n. counted usable n pages) same
     ∙ sound_verdict usable count pages none after stands tables_few rows_few free_few is least all_few narrow (subst (λ n. Passes n none after (all_marks usable n pages)) same passes)
 
-pub checked_broken : (usable now count page rule : ℕ) (pages : Paging) (none after : ℕ → Bool) (stop : Stop) → now ≡ count → ((n : ℕ) → none n ≡ false) → stop ≡ Broken page rule
-    → Tries now none after (all_marks usable now pages) (the_err Verdict stop) → verdicts.Broken page rule ≡ verdict_of usable count pages
-checked_broken usable now count page rule pages none after stop same is stop_is tried =
+pub checked_broken : (usable now count page rule : ℕ) (pages : Paging) (none after : ℕ → Bool) (halt : Halt) → now ≡ count → ((n : ℕ) → none n ≡ false) → halt ≡ Broken page rule
+    → Tries now none after (all_marks usable now pages) (the_err Verdict halt) → verdicts.Broken page rule ≡ verdict_of usable count pages
+checked_broken usable now count page rule pages none after halt same is halt_is tried =
     broken_verdict usable count page rule pages none is
-    (subst (λ n. Breaks n none (all_marks usable n pages) (page, rule)) same (subst (λ s. Tries now none after (all_marks usable now pages) (the_err Verdict s)) stop_is tried))
+    (subst (λ n. Breaks n none (all_marks usable n pages) (page, rule)) same (subst (λ s. Tries now none after (all_marks usable now pages) (the_err Verdict s)) halt_is tried))

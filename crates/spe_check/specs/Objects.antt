@@ -12,7 +12,7 @@ use Rattle.spe_space.specs.declared.pages.Pages.{Ghosts}
 use Rattle.spe_catalog.specs.Table.{Attaches}
 use Rattle.spe_catalog.specs.declared.table.Attached.{Attached}
 use Rattle.spe_check.specs.declared.met.Met.{Met}
-use Rattle.spe_check.specs.declared.stop.Stop.{Stop}
+use Rattle.spe_check.specs.declared.halt.Halt.{Halt}
 use Rattle.spe_check.specs.MetPages.{has_met}
 use Rattle.spe_check.specs.Pages.{behind_read}
 use Rattle.spe_check.specs.RecordRows.{saturated}
@@ -40,19 +40,19 @@ index_tree usable pages holder root = index_marks usable pages (levels_at_leaf u
 
 -- a tree is tried from its root on, which was read and holds this, and so many rows are counted
 abbrev pub TriesFrom : {P : Type 0} (g : Ghosts P) (late : P) (before after : Met) (marks : (usable : ℕ) → Paging → (holder root : ℕ) → List Mark) (counted : (usable : ℕ) → Paging → ℕ)
-    → (root : ℕ) → PageCells → Result ℕ Stop → Type 0
+    → (root : ℕ) → PageCells → Result ℕ Halt → Type 0
 TriesFrom g late before after marks counted root node result =
     Each g late (λ usable pages. (holder : ℕ) → node_at usable pages root ≡ Ok node
     → Tries before.pages (has_met before) (has_met after) (behind_read (marks usable pages holder root)) result × IfOk result (λ rows. rows ≡ counted usable pages))
 
 -- the tree of a row's object is tried from its root on, which was read and holds this
-abbrev pub TriesTree : {P : Type 0} (g : Ghosts P) (late : P) (before after : Met) → Attached → (root : ℕ) → SchemaRow → PageCells → Result ℕ Stop → Type 0
+abbrev pub TriesTree : {P : Type 0} (g : Ghosts P) (late : P) (before after : Met) → Attached → (root : ℕ) → SchemaRow → PageCells → Result ℕ Halt → Type 0
 TriesTree g late before after attached root row node result =
     Each g late (λ usable pages. (holder : ℕ) → Attaches (schema_rows usable pages) attached → root ≡ root_of row.rootpage → (root == 0) ≡ false → node_at usable pages root ≡ Ok node
     → Tries before.pages (has_met before) (has_met after) (behind_read (root_marks usable pages holder row root)) result
     × IfOk result (λ rows. rows ≡ saturated (open_rows usable pages row)))
 
-abbrev pub TriesObject : {P : Type 0} (g : Ghosts P) (late : P) (before after : Met) → Attached → ℕ × SchemaRow → Result ℕ Stop → Type 0
+abbrev pub TriesObject : {P : Type 0} (g : Ghosts P) (late : P) (before after : Met) → Attached → ℕ × SchemaRow → Result ℕ Halt → Type 0
 TriesObject g late before after attached placed result =
     Each g late (λ usable pages. Attaches (schema_rows usable pages) attached
     → Tries before.pages (has_met before) (has_met after) (object_marks usable pages placed) result
@@ -62,7 +62,7 @@ abbrev pub rows_of_open : (usable : ℕ) → Paging → List (ℕ × SchemaRow) 
 rows_of_open usable pages placed = sum (map (open_rows usable pages) (rows_in placed))
 
 -- where these are the rows of the schema, the trees of their objects are tried, and the rows of open tables are counted
-abbrev pub TriesObjects : {P : Type 0} (g : Ghosts P) (late : P) (before after : Met) → List (ℕ × SchemaRow) → Result ℕ Stop → Type 0
+abbrev pub TriesObjects : {P : Type 0} (g : Ghosts P) (late : P) (before after : Met) → List (ℕ × SchemaRow) → Result ℕ Halt → Type 0
 TriesObjects g late before after placed result =
     Each g late (λ usable pages. rows_in placed ≡ schema_rows usable pages
     → Tries before.pages (has_met before) (has_met after) (flat_map (object_marks usable pages) placed) result

@@ -4,7 +4,7 @@ use Rattle.spe_model.specs.declared.value.Value.{Value}
 use Rattle.spe_model.specs.Record.{record_of}
 use Rattle.spe_model.specs.Verdict.{LeafRow, fits, no_marks, record_marks}
 use Rattle.spe_model.specs.Walk.{Keeps}
-use Rattle.spe_check.specs.declared.stop.Stop.{Stop}
+use Rattle.spe_check.specs.declared.halt.Halt.{Halt}
 use Rattle.spe_check.specs.Tries.{Tries}
 use Rattle.spe_check.specs.Visitor.{Outlook}
 
@@ -12,7 +12,7 @@ use Rattle.spe_check.specs.Visitor.{Outlook}
 abbrev pub saturated : ℕ → ℕ
 saturated n = min n 18446744073709551615
 
-abbrev pub TriesRecord : (leaf columns : ℕ) → List ℕ → Result (List Value) Stop → Type 0
+abbrev pub TriesRecord : (leaf columns : ℕ) → List ℕ → Result (List Value) Halt → Type 0
 TriesRecord leaf columns payload result =
     (count : ℕ) (met : ℕ → Bool) → Tries count met met (Keeps leaf 8 (fits columns (record_of payload)) ∷ []) result
 

@@ -7,7 +7,7 @@ use Rattle.spe_model.specs.Tree.{rank}
 use Rattle.spe_model.specs.Verdict.{LeafRow, schema_marks, with_leaf}
 use Rattle.spe_model.specs.Walk.{Keeps}
 use Rattle.spe_catalog.specs.Names.{has_name}
-use Rattle.spe_check.specs.declared.stop.Stop.{Stop}
+use Rattle.spe_check.specs.declared.halt.Halt.{Halt}
 use Rattle.spe_check.specs.Tries.{Tries}
 use Rattle.spe_check.specs.Visitor.{Outlook}
 
@@ -43,5 +43,5 @@ AreNames placed names = (name : List ℕ) → has_name names name ≡ list_any (
 abbrev pub is_free : List (ℕ × SchemaRow) → SchemaRow → Bool
 is_free placed row = not (is_table_row row && list_any (is_named row.name) (rows_in placed))
 
-abbrev pub TriesName : List (ℕ × SchemaRow) → (leaf : ℕ) → SchemaRow → Result (Unit {0}) Stop → Type 0
+abbrev pub TriesName : List (ℕ × SchemaRow) → (leaf : ℕ) → SchemaRow → Result (Unit {0}) Halt → Type 0
 TriesName placed leaf row result = (count : ℕ) (met : ℕ → Bool) → Tries count met met (Keeps leaf 9 (is_free placed row) ∷ []) result

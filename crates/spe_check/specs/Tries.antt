@@ -1,8 +1,8 @@
 -- What a part of a walk does: it tries marks, one after the other, whatever marks follow.
 use Rattle.std.specs.Prelude.{◌≡◌, ℕ, ◌==◌, ◌||◌, not, Bool, List, [], ◌∷◌, ◌++◌, Option, Some, None, Result, Ok, Err, if◌then◌else◌}
 use Rattle.spe_model.specs.Walk.{Mark, Names, Keeps, is_one_of}
-use Rattle.spe_check.specs.declared.stop.Stop.{Stop}
-use Rattle.spe_check.specs.declared.stop.Stop.TheVariants.{Broken, Space}
+use Rattle.spe_check.specs.declared.halt.Halt.{Halt}
+use Rattle.spe_check.specs.declared.halt.Halt.TheVariants.{Broken, Space}
 
 -- pages as a test of page numbers, with one more
 abbrev pub with_page : ℕ → (ℕ → Bool) → ℕ → Bool
@@ -29,12 +29,12 @@ abbrev pub Breaks : (count : ℕ) (before : ℕ → Bool) → List Mark → ℕ 
 Breaks count before marks which = (more : List Mark) → broken count before (marks ++ more) ≡ Some which
 
 -- a part of a walk tries these marks
-abbrev pub Tries : {X : Type 0} → (count : ℕ) (before after : ℕ → Bool) → List Mark → Result X Stop → Type 0
+abbrev pub Tries : {X : Type 0} → (count : ℕ) (before after : ℕ → Bool) → List Mark → Result X Halt → Type 0
 Tries count before after marks (Ok x) = Passes count before after marks
 Tries count before after marks (Err (Broken page rule)) = Breaks count before marks (page, rule)
 Tries count before after marks (Err (Space f)) = Unit {0}
 
 -- a rule is broken
-abbrev pub IsBroken : Stop → Type 0
+abbrev pub IsBroken : Halt → Type 0
 IsBroken (Broken page rule) = Unit {0}
 IsBroken (Space f) = ⊥

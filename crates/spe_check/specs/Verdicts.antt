@@ -11,7 +11,7 @@ use Rattle.spe_model.specs.Verdict.{all_marks, free_pages, open_rows, placed_row
 use Rattle.spe_model.specs.Walk.{Mark, levels_at_leaf, table_marks}
 use Rattle.spe_space.specs.declared.pages.Pages.{Ghosts}
 use Rattle.spe_check.specs.declared.met.Met.{Met}
-use Rattle.spe_check.specs.declared.stop.Stop.{Stop}
+use Rattle.spe_check.specs.declared.halt.Halt.{Halt}
 use Rattle.spe_check.specs.MetPages.{has_met}
 use Rattle.spe_check.specs.RecordRows.{saturated}
 use Rattle.spe_check.specs.SchemaRows.{rows_in}
@@ -34,7 +34,7 @@ abbrev pub schema_tree : (usable : ℕ) → Paging → List Mark
 schema_tree usable pages =
     table_marks (schema_marks (schema_rows usable pages)) usable pages (levels_at_leaf usable pages tree_levels 1) tree_levels 0 18446744073709551616 1 1
 
-abbrev pub TriesSchema : {P : Type 0} (g : Ghosts P) (late : P) (before after : Met) → Result (Vec (ℕ × SchemaRow) Global) Stop → Type 0
+abbrev pub TriesSchema : {P : Type 0} (g : Ghosts P) (late : P) (before after : Met) → Result (Vec (ℕ × SchemaRow) Global) Halt → Type 0
 TriesSchema g late before after result =
     Each g late (λ usable pages. Tries before.pages (has_met before) (has_met after) (schema_tree usable pages) result
     × IfOk result (λ placed. placed.items ≡ placed_rows usable pages))
@@ -47,7 +47,7 @@ counted usable count pages = verdicts.Stands
     (narrowed (length (free_pages count pages)))
 
 -- all that is to be tried of pages that begin with this header is tried
-abbrev pub TriesAll : {P : Type 0} (g : Ghosts P) (late : P) (before after : Met) → Header → Result Verdict Stop → Type 0
+abbrev pub TriesAll : {P : Type 0} (g : Ghosts P) (late : P) (before after : Met) → Header → Result Verdict Halt → Type 0
 TriesAll g late before after header result =
     Each g late (λ usable pages. header_of (take 100 (pages 1)) ≡ Ok header
     → Tries before.pages (has_met before) (has_met after) (all_marks usable before.pages pages) result

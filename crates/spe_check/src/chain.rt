@@ -3,11 +3,11 @@
 ghost use Rattle.std.specs.Prelude.{◌≡◌, ◌+◌, ◌≤◌, ◌==◌, ℕ, Bool, not, [], ◌∷◌, OnOk, IfErr, length};
 ghost use Rattle.spe_model.specs.Walk.{Mark, Keeps};
 ghost use Rattle.spe_check.specs.Chains.{kept_of, TriesLink, TriesChain};
-ghost use Rattle.spe_check.specs.Shown.{Walked, RefusesStop, AsksWithin};
+ghost use Rattle.spe_check.specs.Shown.{Walked, RefusesHalt, AsksWithin};
 ghost use Rattle.spe_check.specs.Tries.{IsBroken, Tries};
 
+use crate::halt::Halt;
 use crate::met::Met;
-use crate::stop::Stop;
 use spe_model::u32_of;
 use spe_space::Pages;
 use std::alloc::AllocError;
@@ -23,12 +23,12 @@ fn keep(wanted: bool, bytes: &[u8], out: &mut Vec<u8>) -> Result<(), AllocError>
 }
 
 // Whether a page follows where one has to.
-fn try_some(holder: u32, page: u32) -> Result<(), Stop>
+fn try_some(holder: u32, page: u32) -> Result<(), Halt>
     ensures tried { (count : ℕ) (met : ℕ → Bool) → Tries count met met (Keeps holder 7 (not (page == 0)) ∷ []) result }
     ensures broken { IfErr result IsBroken }
 {
     if page == 0 {
-        return Err(Stop::Broken {
+        return Err(Halt::Broken {
             page: holder,
             rule: 7,
         });
@@ -37,12 +37,12 @@ fn try_some(holder: u32, page: u32) -> Result<(), Stop>
 }
 
 // Whether none follows where none may.
-fn try_none(holder: u32, page: u32) -> Result<(), Stop>
+fn try_none(holder: u32, page: u32) -> Result<(), Halt>
     ensures tried { (count : ℕ) (met : ℕ → Bool) → Tries count met met (Keeps holder 7 (page == 0) ∷ []) result }
     ensures broken { IfErr result IsBroken }
 {
     if page != 0 {
-        return Err(Stop::Broken {
+        return Err(Halt::Broken {
             page: holder,
             rule: 7,
         });
@@ -61,22 +61,22 @@ fn try_link<S: Pages>(
     wanted: bool,
     buf: &mut [u8],
     out: &mut Vec<u8>,
-) -> Result<u32, Stop>
+) -> Result<u32, Halt>
     requires size { length buf.old ≡ S.Pages.size space.old }
     requires room { here + 4 ≤ S.Pages.used space.old }
     requires within { S.Pages.used space.old ≤ S.Pages.size space.old }
     ensures tried { TriesLink S.Pages space.new met.old met.new holder page here wanted out.old.items out.new.items result }
     ensures walked { Walked S.Pages space.old space.new met.old met.new }
-    ensures refusal { RefusesStop S.Pages space.old space.new result }
+    ensures refusal { RefusesHalt S.Pages space.old space.new result }
     ensures asks { AsksWithin met.old result }
 {
     match try_some(holder, page) {
         Ok(()) => (),
-        Err(stop) => return Err(stop),
+        Err(halt) => return Err(halt),
     }
     match met.meet(holder, page) {
         Ok(()) => (),
-        Err(stop) => return Err(stop),
+        Err(halt) => return Err(halt),
     }
     space.get(page, buf)?;
     keep(wanted, &buf[4..4 + here], out)?;
@@ -96,11 +96,11 @@ pub fn try_chain<S: Pages>(
     wanted: bool,
     buf: &mut [u8],
     out: &mut Vec<u8>,
-) -> Result<(), Stop>
+) -> Result<(), Halt>
     requires { length buf.old ≡ S.Pages.size space.old }
     ensures tried { TriesChain S.Pages space.new met.old met.new holder first bytes wanted out.old.items out.new.items result }
     ensures walked { Walked S.Pages space.old space.new met.old met.new }
-    ensures refusal { RefusesStop S.Pages space.old space.new result }
+    ensures refusal { RefusesHalt S.Pages space.old space.new result }
     ensures asks { AsksWithin met.old result }
 {
     let usable = space.usable();
@@ -111,7 +111,7 @@ pub fn try_chain<S: Pages>(
         let here = left.min(u64::from(usable - 4));
         let next = match try_link(space, met, at, page, here as usize, wanted, buf, out) {
             Ok(next) => next,
-            Err(stop) => return Err(stop),
+            Err(halt) => return Err(halt),
         };
         left -= here;
         at = page;

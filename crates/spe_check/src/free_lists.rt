@@ -3,11 +3,11 @@
 ghost use Rattle.std.specs.Prelude.{◌≡◌, ◌+◌, ◌*◌, ◌^◌, ◌≤◌, ◌==◌, IfOk, length, take};
 ghost use Rattle.spe_model.specs.FreeList.{is_list_count};
 ghost use Rattle.spe_check.specs.FreeLists.{TriesFree, TriesList, TriesLists, TriesNode, TriesStock};
-ghost use Rattle.spe_check.specs.Shown.{Walked, RefusesStop, AsksWithin};
+ghost use Rattle.spe_check.specs.Shown.{Walked, RefusesHalt, AsksWithin};
 
+use crate::halt::Halt;
 use crate::met::Met;
 use crate::rule::try_rule;
-use crate::stop::Stop;
 use crate::trunk::{get_met, try_trunks};
 use spe_model::{Header, u32_of};
 use spe_space::Pages;
@@ -35,16 +35,16 @@ fn try_list<S: Pages>(
     node: u32,
     first: u32,
     buf: &mut [u8],
-) -> Result<u64, Stop>
+) -> Result<u64, Halt>
     requires { length buf.old ≡ S.Pages.size space.old }
     ensures tried { TriesList S.Pages space.new met.old met.new node first result }
     ensures few { IfOk result (λ free. free ≤ 2 ^ 48) }
     ensures walked { Walked S.Pages space.old space.new met.old met.new }
-    ensures refusal { RefusesStop S.Pages space.old space.new result }
+    ensures refusal { RefusesHalt S.Pages space.old space.new result }
     ensures asks { AsksWithin met.old result }
 {
     if first == 0 {
-        return Err(Stop::Broken {
+        return Err(Halt::Broken {
             page: node,
             rule: 1,
         });
@@ -60,13 +60,13 @@ fn try_lists<S: Pages>(
     names: &[u8],
     count: usize,
     buf: &mut [u8],
-) -> Result<u64, Stop>
+) -> Result<u64, Halt>
     requires size { length buf.old ≡ S.Pages.size space.old }
     requires few { count ≤ 16 }
     requires inside { 4 + 4 * count ≤ length names.now }
     ensures tried { TriesLists S.Pages space.new met.old met.new node names.now count result }
     ensures walked { Walked S.Pages space.old space.new met.old met.new }
-    ensures refusal { RefusesStop S.Pages space.old space.new result }
+    ensures refusal { RefusesHalt S.Pages space.old space.new result }
     ensures asks { AsksWithin met.old result }
 {
     let mut free = 0;
@@ -74,30 +74,30 @@ fn try_lists<S: Pages>(
         let first = u32_of(names, 4 + 4 * index);
         match try_list(space, met, node, first, buf) {
             Ok(more) => free += more,
-            Err(stop) => return Err(stop),
+            Err(halt) => return Err(halt),
         }
     }
     Ok(free)
 }
 
 // Tries a node page and its lists, and answers how many pages these have.
-fn try_node<S: Pages>(space: &mut S, met: &mut Met, node: u32, buf: &mut [u8]) -> Result<u64, Stop>
+fn try_node<S: Pages>(space: &mut S, met: &mut Met, node: u32, buf: &mut [u8]) -> Result<u64, Halt>
     requires { length buf.old ≡ S.Pages.size space.old }
     ensures tried { TriesNode S.Pages space.new met.old met.new node result }
     ensures walked { Walked S.Pages space.old space.new met.old met.new }
-    ensures refusal { RefusesStop S.Pages space.old space.new result }
+    ensures refusal { RefusesHalt S.Pages space.old space.new result }
     ensures asks { AsksWithin met.old result }
 {
     let usable = space.usable() as usize;
     match get_met(space, met, 1, node, buf) {
         Ok(()) => (),
-        Err(stop) => return Err(stop),
+        Err(halt) => return Err(halt),
     }
     let names = names_in(&buf[..usable]);
     let count = u32_of(&names, 0);
     match try_rule(is_list_count(count), node, 11) {
         Ok(()) => (),
-        Err(stop) => return Err(stop),
+        Err(halt) => return Err(halt),
     }
     try_lists(space, met, node, &names, count as usize, buf)
 }
@@ -115,20 +115,20 @@ fn try_stock<S: Pages>(
     first: u32,
     number: u32,
     buf: &mut [u8],
-) -> Result<u64, Stop>
+) -> Result<u64, Halt>
     requires { length buf.old ≡ S.Pages.size space.old }
     ensures tried { TriesStock S.Pages space.new met.old met.new first number result }
     ensures walked { Walked S.Pages space.old space.new met.old met.new }
-    ensures refusal { RefusesStop S.Pages space.old space.new result }
+    ensures refusal { RefusesHalt S.Pages space.old space.new result }
     ensures asks { AsksWithin met.old result }
 {
     let free = match try_trunks(space, met, 1, first, buf) {
         Ok(free) => free,
-        Err(stop) => return Err(stop),
+        Err(halt) => return Err(halt),
     };
     match try_rule(are_as_many(free, number), 1, 10) {
         Ok(()) => Ok(free),
-        Err(stop) => Err(stop),
+        Err(halt) => Err(halt),
     }
 }
 
@@ -142,11 +142,11 @@ pub fn try_free<S: Pages>(
     met: &mut Met,
     header: &Header,
     buf: &mut [u8],
-) -> Result<u64, Stop>
+) -> Result<u64, Halt>
     requires { length buf.old ≡ S.Pages.size space.old }
     ensures tried { TriesFree S.Pages space.new met.old met.new header.now result }
     ensures walked { Walked S.Pages space.old space.new met.old met.new }
-    ensures refusal { RefusesStop S.Pages space.old space.new result }
+    ensures refusal { RefusesHalt S.Pages space.old space.new result }
     ensures asks { AsksWithin met.old result }
 {
     match header.node() {

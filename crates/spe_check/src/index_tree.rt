@@ -3,12 +3,12 @@
 ghost use Rattle.std.specs.Prelude.{◌≡◌, IfOk, length};
 ghost use Rattle.spe_model.specs.Tree.{rest_of};
 ghost use Rattle.spe_check.specs.IndexTree.{level_of, TriesCell, TriesChains, TriesIndex, TriesIndexFrom};
-ghost use Rattle.spe_check.specs.Shown.{Walked, RefusesStop, AsksWithin};
+ghost use Rattle.spe_check.specs.Shown.{Walked, RefusesHalt, AsksWithin};
 
 use crate::chain::try_chain;
+use crate::halt::Halt;
 use crate::met::Met;
 use crate::page::{is_leaf, read_met, try_place};
-use crate::stop::Stop;
 use spe_model::{Cell, PageCells};
 use spe_space::Pages;
 use std::alloc::Global;
@@ -29,11 +29,11 @@ fn try_cell<S: Pages>(
     cell: &Cell,
     buf: &mut [u8],
     spare: &mut Vec<u8>,
-) -> Result<(), Stop>
+) -> Result<(), Halt>
     requires { length buf.old ≡ S.Pages.size space.old }
     ensures tried { TriesCell S.Pages space.new met.old met.new page cell.now result }
     ensures walked { Walked S.Pages space.old space.new met.old met.new }
-    ensures refusal { RefusesStop S.Pages space.old space.new result }
+    ensures refusal { RefusesHalt S.Pages space.old space.new result }
     ensures asks { AsksWithin met.old result }
 {
     try_chain(
@@ -56,18 +56,18 @@ fn try_chains<S: Pages>(
     cells: &[Cell],
     buf: &mut [u8],
     spare: &mut Vec<u8>,
-) -> Result<(), Stop>
+) -> Result<(), Halt>
     requires { length buf.old ≡ S.Pages.size space.old }
     ensures tried { TriesChains S.Pages space.new met.old met.new page cells.now result }
     ensures walked { Walked S.Pages space.old space.new met.old met.new }
-    ensures refusal { RefusesStop S.Pages space.old space.new result }
+    ensures refusal { RefusesHalt S.Pages space.old space.new result }
     ensures asks { AsksWithin met.old result }
 {
     let mut left = cells;
     'cells: while let [cell, rest @ ..] = left {
         match try_cell(space, met, page, cell, buf, spare) {
             Ok(()) => (),
-            Err(stop) => return Err(stop),
+            Err(halt) => return Err(halt),
         }
         left = rest;
     }
@@ -93,17 +93,17 @@ fn walk_leaf<S: Pages>(
     cells: &[Cell],
     buf: &mut [u8],
     spare: &mut Vec<u8>,
-) -> Result<u32, Stop>
+) -> Result<u32, Halt>
     requires { length buf.old ≡ S.Pages.size space.old }
     ensures tried { TriesChains S.Pages space.new met.old met.new page cells.now result }
     ensures level { IfOk result (λ level. level ≡ levels) }
     ensures walked { Walked S.Pages space.old space.new met.old met.new }
-    ensures refusal { RefusesStop S.Pages space.old space.new result }
+    ensures refusal { RefusesHalt S.Pages space.old space.new result }
     ensures asks { AsksWithin met.old result }
 {
     match try_chains(space, met, page, cells, buf, spare) {
         Ok(()) => Ok(levels),
-        Err(stop) => Err(stop),
+        Err(halt) => Err(halt),
     }
 }
 
@@ -123,16 +123,16 @@ pub fn walk_index<S: Pages>(
     page: u32,
     buf: &mut [u8],
     spare: &mut Vec<u8>,
-) -> Result<u32, Stop>
+) -> Result<u32, Halt>
     requires { length buf.old ≡ S.Pages.size space.old }
     ensures tried { TriesIndex S.Pages space.new met.old met.new leaf levels holder page result }
     ensures walked { Walked S.Pages space.old space.new met.old met.new }
-    ensures refusal { RefusesStop S.Pages space.old space.new result }
+    ensures refusal { RefusesHalt S.Pages space.old space.new result }
     ensures asks { AsksWithin met.old result }
 {
     let node = match read_met(alloc, space, met, holder, page, buf) {
         Ok(node) => node,
-        Err(stop) => return Err(stop),
+        Err(halt) => return Err(halt),
     };
     walk_index_from(alloc, space, met, leaf, levels, page, &node, buf, spare)
 }
@@ -150,16 +150,16 @@ pub fn walk_index_from<S: Pages>(
     node: &PageCells,
     buf: &mut [u8],
     spare: &mut Vec<u8>,
-) -> Result<u32, Stop>
+) -> Result<u32, Halt>
     requires { length buf.old ≡ S.Pages.size space.old }
     ensures tried { TriesIndexFrom S.Pages space.new met.old met.new leaf levels page node.now result }
     ensures walked { Walked S.Pages space.old space.new met.old met.new }
-    ensures refusal { RefusesStop S.Pages space.old space.new result }
+    ensures refusal { RefusesHalt S.Pages space.old space.new result }
     ensures asks { AsksWithin met.old result }
 {
     match try_place(false, leaf, levels, page, node.kind) {
         Ok(()) => (),
-        Err(stop) => return Err(stop),
+        Err(halt) => return Err(halt),
     }
     if is_leaf(node.kind) {
         let level = level_of(leaf, levels);
@@ -181,11 +181,11 @@ pub fn walk_index_from<S: Pages>(
             spare,
         ) {
             Ok(level) => stand = Some(level),
-            Err(stop) => return Err(stop),
+            Err(halt) => return Err(halt),
         }
         match try_cell(space, met, page, cell, buf, spare) {
             Ok(()) => (),
-            Err(stop) => return Err(stop),
+            Err(halt) => return Err(halt),
         }
         left = rest;
     }

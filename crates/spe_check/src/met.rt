@@ -6,7 +6,7 @@ ghost use Rattle.spe_check.specs.Tries.{IsBroken, Tries};
 ghost use Rattle.spe_model.specs.Walk.{Mark, Names};
 ghost use Rattle.spe_space.specs.Outcome.{IsInside};
 
-use crate::stop::Stop;
+use crate::halt::Halt;
 use std::alloc::{AllocError, Global};
 
 /// Which of the pages 1 to `pages` were met: a bit for each.
@@ -33,20 +33,20 @@ impl Met {
     ///
     /// Broken is rule 1 with `holder` where there is no such page, and rule 2 with the page where it
     /// was met before; then nothing is met.
-    pub fn meet(&mut self, holder: u32, page: u32) -> Result<(), Stop>
+    pub fn meet(&mut self, holder: u32, page: u32) -> Result<(), Halt>
         ensures tried { Tries self.old.pages (has_met self.old) (has_met self.new) (Names holder page ∷ []) result }
         ensures pages { self.new.pages ≡ self.old.pages }
         ensures broken { IfErr result IsBroken }
         ensures inside { OnOk result (IsInside self.old.pages page) }
     {
         if page == 0 || page > self.pages {
-            return Err(Stop::Broken {
+            return Err(Halt::Broken {
                 page: holder,
                 rule: 1,
             });
         }
         if is_marked(self.bits.as_slice(), page) {
-            return Err(Stop::Broken { page, rule: 2 });
+            return Err(Halt::Broken { page, rule: 2 });
         }
         mark(&mut self.bits, page);
         Ok(())

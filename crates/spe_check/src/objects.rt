@@ -8,14 +8,14 @@ ghost use Rattle.spe_catalog.specs.Table.{Attaches};
 ghost use Rattle.spe_check.specs.Objects.{index_tree, table_tree, OpensTable, TriesFrom, TriesTree, TriesObject, TriesObjects};
 ghost use Rattle.spe_check.specs.RecordRows.{saturated};
 ghost use Rattle.spe_check.specs.SchemaRows.{rows_in};
-ghost use Rattle.spe_check.specs.Shown.{Walked, RefusesStop, AsksWithin};
+ghost use Rattle.spe_check.specs.Shown.{Walked, RefusesHalt, AsksWithin};
 
+use crate::halt::Halt;
 use crate::index_tree::walk_index_from;
 use crate::met::Met;
 use crate::page::{is_table, read_met};
 use crate::record_rows::{NoRows, RecordRows};
 use crate::schema_rows::Placed;
-use crate::stop::Stop;
 use crate::table_tree::walk_table_from;
 use spe_catalog::{Attached, SchemaRow, table_of};
 use spe_model::PageCells;
@@ -81,18 +81,18 @@ fn try_index<S: Pages>(
     root: u32,
     node: &PageCells,
     buf: &mut [u8],
-) -> Result<u64, Stop>
+) -> Result<u64, Halt>
     requires { length buf.old ≡ S.Pages.size space.old }
     ensures tried { TriesFrom S.Pages space.new met.old met.new index_tree (λ _ _. 0) root node.now result }
     ensures walked { Walked S.Pages space.old space.new met.old met.new }
-    ensures refusal { RefusesStop S.Pages space.old space.new result }
+    ensures refusal { RefusesHalt S.Pages space.old space.new result }
     ensures asks { AsksWithin met.old result }
 {
     let levels = tree_levels();
     let mut spare = Vec::new(alloc);
     match walk_index_from(alloc, space, met, None, levels, root, node, buf, &mut spare) {
         Ok(_level) => Ok(0),
-        Err(stop) => Err(stop),
+        Err(halt) => Err(halt),
     }
 }
 
@@ -104,11 +104,11 @@ fn try_closed<S: Pages>(
     root: u32,
     node: &PageCells,
     buf: &mut [u8],
-) -> Result<u64, Stop>
+) -> Result<u64, Halt>
     requires { length buf.old ≡ S.Pages.size space.old }
     ensures tried { TriesFrom S.Pages space.new met.old met.new (table_tree no_marks) (λ _ _. 0) root node.now result }
     ensures walked { Walked S.Pages space.old space.new met.old met.new }
-    ensures refusal { RefusesStop S.Pages space.old space.new result }
+    ensures refusal { RefusesHalt S.Pages space.old space.new result }
     ensures asks { AsksWithin met.old result }
 {
     let levels = tree_levels();
@@ -128,7 +128,7 @@ fn try_closed<S: Pages>(
         &mut payload,
     ) {
         Ok(_level) => Ok(0),
-        Err(stop) => Err(stop),
+        Err(halt) => Err(halt),
     }
 }
 
@@ -141,11 +141,11 @@ fn try_open<S: Pages>(
     root: u32,
     node: &PageCells,
     buf: &mut [u8],
-) -> Result<u64, Stop>
+) -> Result<u64, Halt>
     requires { length buf.old ≡ S.Pages.size space.old }
     ensures tried { TriesFrom S.Pages space.new met.old met.new (table_tree (record_marks columns)) (λ usable pages. saturated (length (walk_rows usable pages tree_levels root))) root node.now result }
     ensures walked { Walked S.Pages space.old space.new met.old met.new }
-    ensures refusal { RefusesStop S.Pages space.old space.new result }
+    ensures refusal { RefusesHalt S.Pages space.old space.new result }
     ensures asks { AsksWithin met.old result }
 {
     let levels = tree_levels();
@@ -166,7 +166,7 @@ fn try_open<S: Pages>(
         &mut payload,
     ) {
         Ok(_level) => Ok(rows.count()),
-        Err(stop) => Err(stop),
+        Err(halt) => Err(halt),
     }
 }
 
@@ -181,11 +181,11 @@ fn try_tree<S: Pages>(
     root: u32,
     node: &PageCells,
     buf: &mut [u8],
-) -> Result<u64, Stop>
+) -> Result<u64, Halt>
     requires { length buf.old ≡ S.Pages.size space.old }
     ensures tried { TriesTree S.Pages space.new met.old met.new attached.now root row.now node.now result }
     ensures walked { Walked S.Pages space.old space.new met.old met.new }
-    ensures refusal { RefusesStop S.Pages space.old space.new result }
+    ensures refusal { RefusesHalt S.Pages space.old space.new result }
     ensures asks { AsksWithin met.old result }
 {
     if !is_table(node.kind) {
@@ -206,17 +206,17 @@ fn try_object<S: Pages>(
     attached: &Attached,
     placed: &Placed,
     buf: &mut [u8],
-) -> Result<u64, Stop>
+) -> Result<u64, Halt>
     requires { length buf.old ≡ S.Pages.size space.old }
     ensures tried { TriesObject S.Pages space.new met.old met.new attached.now placed.now result }
     ensures walked { Walked S.Pages space.old space.new met.old met.new }
-    ensures refusal { RefusesStop S.Pages space.old space.new result }
+    ensures refusal { RefusesHalt S.Pages space.old space.new result }
     ensures asks { AsksWithin met.old result }
 {
     let row = placed.row();
     let leaf = placed.leaf();
     let Some(root) = root_within(met.pages, row) else {
-        return Err(Stop::Broken {
+        return Err(Halt::Broken {
             page: leaf,
             rule: 1,
         });
@@ -226,7 +226,7 @@ fn try_object<S: Pages>(
     }
     let node = match read_met(alloc, space, met, leaf, root, buf) {
         Ok(node) => node,
-        Err(stop) => return Err(stop),
+        Err(halt) => return Err(halt),
     };
     try_tree(alloc, space, met, attached, row, root, &node, buf)
 }
@@ -243,11 +243,11 @@ pub fn try_objects<S: Pages>(
     met: &mut Met,
     placed: &[Placed],
     buf: &mut [u8],
-) -> Result<u64, Stop>
+) -> Result<u64, Halt>
     requires { length buf.old ≡ S.Pages.size space.old }
     ensures tried { TriesObjects S.Pages space.new met.old met.new placed.now result }
     ensures walked { Walked S.Pages space.old space.new met.old met.new }
-    ensures refusal { RefusesStop S.Pages space.old space.new result }
+    ensures refusal { RefusesHalt S.Pages space.old space.new result }
     ensures asks { AsksWithin met.old result }
 {
     let attached = attached_to(alloc, placed)?;
@@ -256,7 +256,7 @@ pub fn try_objects<S: Pages>(
     'objects: while let [first, rest @ ..] = left {
         match try_object(alloc, space, met, &attached, first, buf) {
             Ok(more) => rows = rows.saturating_add(more),
-            Err(stop) => return Err(stop),
+            Err(halt) => return Err(halt),
         }
         left = rest;
     }

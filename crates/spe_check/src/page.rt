@@ -4,13 +4,13 @@ ghost use Rattle.std.specs.Prelude.{◌≡◌, ◌≤◌, ◌<◌, ◌⊎◌, On
 ghost use Rattle.spe_model.specs.Kind.{is_leaf, is_table};
 ghost use Rattle.spe_model.specs.Page.{page_at};
 ghost use Rattle.spe_model.specs.Tree.{header_end};
-ghost use Rattle.spe_check.specs.Pages.{is_of_sort, stands_well, IsReading, IsStopOf, TriesRead, TriesPlace, TellsSort};
-ghost use Rattle.spe_check.specs.Shown.{Walked, RefusesStop, AsksWithin};
+ghost use Rattle.spe_check.specs.Pages.{is_of_sort, stands_well, IsReading, IsHaltOf, TriesRead, TriesPlace, TellsSort};
+ghost use Rattle.spe_check.specs.Shown.{Walked, RefusesHalt, AsksWithin};
 ghost use Rattle.spe_check.specs.Tries.{IsBroken};
 
+use crate::halt::Halt;
 use crate::met::Met;
 use crate::rule::try_rule;
-use crate::stop::Stop;
 use spe_format::read_page;
 use spe_model::{Kind, PageCells, PageFault};
 use spe_space::{Pages, SpaceFault};
@@ -65,24 +65,24 @@ pub fn try_place(
     levels: u32,
     page: u32,
     kind: Kind,
-) -> Result<(), Stop>
+) -> Result<(), Halt>
     ensures tried { TriesPlace table leaf levels page kind result }
     ensures some { OnOk result (0 < levels) }
     ensures broken { IfErr result IsBroken }
 {
     match try_rule(is_of_sort(table, kind), page, 4) {
         Ok(()) => (),
-        Err(stop) => return Err(stop),
+        Err(halt) => return Err(halt),
     }
     try_rule(stands_well(leaf, levels, kind), page, 5)
 }
 
-fn stop_of(fault: PageFault, page: u32) -> Stop
-    ensures { IsStopOf page fault result }
+fn halt_of(fault: PageFault, page: u32) -> Halt
+    ensures { IsHaltOf page fault result }
 {
     match fault {
-        PageFault::Memory => Stop::Space(SpaceFault::Memory),
-        _ => Stop::Broken { page, rule: 3 },
+        PageFault::Memory => Halt::Space(SpaceFault::Memory),
+        _ => Halt::Broken { page, rule: 3 },
     }
 }
 
@@ -93,7 +93,7 @@ fn node_in(
     at: usize,
     usable: usize,
     page: u32,
-) -> Result<PageCells, Stop>
+) -> Result<PageCells, Halt>
     requires at { (at ≡ 0) ⊎ (at ≡ 100) }
     requires low { 480 ≤ usable }
     requires high { usable ≤ 65536 }
@@ -102,7 +102,7 @@ fn node_in(
 {
     match read_page(alloc, bytes, at, usable) {
         Ok(node) => Ok(node),
-        Err(fault) => Err(stop_of(fault, page)),
+        Err(fault) => Err(halt_of(fault, page)),
     }
 }
 
@@ -117,17 +117,17 @@ pub fn read_met<S: Pages>(
     holder: u32,
     page: u32,
     buf: &mut [u8],
-) -> Result<PageCells, Stop>
+) -> Result<PageCells, Halt>
     requires { length buf.old ≡ S.Pages.size space.old }
     ensures tried { TriesRead S.Pages space.new met.old met.new holder page result }
     ensures sort { TellsSort S.Pages space.new page result }
     ensures walked { Walked S.Pages space.old space.new met.old met.new }
-    ensures refusal { RefusesStop S.Pages space.old space.new result }
+    ensures refusal { RefusesHalt S.Pages space.old space.new result }
     ensures asks { AsksWithin met.old result }
 {
     match met.meet(holder, page) {
         Ok(()) => (),
-        Err(stop) => return Err(stop),
+        Err(halt) => return Err(halt),
     }
     let usable = space.usable() as usize;
     space.get(page, buf)?;

@@ -1,12 +1,12 @@
 //! The pages of a database file, as a space that can only be read.
 
-ghost use Rattle.std.specs.Prelude.{false, true, None, refl};
+ghost use Rattle.std.specs.Prelude.{false, true, None, is_some, refl};
 ghost use Rattle.spe_model.specs.Verdict.{free_pages};
 ghost use Rattle.spe_model.specs.Walk.{is_met};
 ghost use Rattle.spe_check.specs.Admits.{admits_read};
 ghost use Rattle.spe_check.specs.Held.{given_in, told_pages};
 ghost use Rattle.spe_check.specs.ReadOnly.{AreListed};
-ghost use Rattle.spe_check.specs.Given.{at_most_itself, given_agrees};
+ghost use Rattle.spe_check.specs.Given.{agreed_of, at_most_itself, given_agrees};
 
 use crate::disk_space::DiskSpace;
 use crate::origin::Origin;
@@ -40,11 +40,21 @@ impl<D: Disk, K: Origin> Pages for DiskSpace<D, K> {
 
     ghost refusal = { λ s. s.refusal };
 
+    ghost steady = { is_some K.told };
+
     ghost given = { λ s. given_agrees K.told s.size s.pages (given_in s.given.pages) s.held };
 
     ghost settled = { λ _ _. refl };
 
     ghost within = { λ s. (s.some, at_most_itself s.pages) };
+
+    ghost agreed = { λ tells s. agreed_of K.told s.size s.pages (given_in s.given.pages) tells s.held };
+
+    ghost bounded = { λ s. (s.range.1, s.few) };
+
+    ghost placed = { λ s pages stood n free. stood.later n free };
+
+    ghost named = { λ s pages agrees stood alone. stood.number };
 
     fn page_size(&self) -> u32 {
         self.size
@@ -58,10 +68,7 @@ impl<D: Disk, K: Origin> Pages for DiskSpace<D, K> {
         if !self.has(page) {
             return Err(self.refuse_page(page));
         }
-        match self.read(page, buf) {
-            Ok(()) => (),
-            Err(fault) => return Err(fault),
-        }
+        self.read(page, buf)?;
         self.give(page, buf);
         Ok(())
     }

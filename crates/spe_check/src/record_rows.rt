@@ -6,8 +6,8 @@ ghost use Rattle.spe_model.specs.Record.{record_of};
 ghost use Rattle.spe_check.specs.RecordRows.{no_outlook, record_outlook, TriesRecord};
 ghost use Rattle.spe_check.specs.Visitor.{IsOwn};
 
+use crate::halt::Halt;
 use crate::rule::try_rule;
-use crate::stop::Stop;
 use crate::visitor::RowVisitor;
 use spe_model::Values;
 use spe_record::{RecordFault, decode};
@@ -22,7 +22,7 @@ fn has_at_most(columns: usize, values: &Values) -> bool
 
 /// The values of the record of a row, which stands on the page `leaf`. Broken is rule 8, where the
 /// payload is no record or has more values than the table has columns.
-pub fn try_record(alloc: Global, leaf: u32, columns: usize, payload: &[u8]) -> Result<Values, Stop>
+pub fn try_record(alloc: Global, leaf: u32, columns: usize, payload: &[u8]) -> Result<Values, Halt>
     ensures tried { TriesRecord leaf columns payload.now result }
     ensures values { IfOk result (λ values. record_of payload.now ≡ Ok values) }
     ensures own { IfErr result IsOwn }
@@ -30,10 +30,10 @@ pub fn try_record(alloc: Global, leaf: u32, columns: usize, payload: &[u8]) -> R
     match decode(alloc, payload) {
         Ok(values) => match try_rule(has_at_most(columns, &values), leaf, 8) {
             Ok(()) => Ok(values),
-            Err(stop) => Err(stop),
+            Err(halt) => Err(halt),
         },
-        Err(RecordFault::Memory) => Err(Stop::Space(SpaceFault::Memory)),
-        Err(_) => Err(Stop::Broken {
+        Err(RecordFault::Memory) => Err(Halt::Space(SpaceFault::Memory)),
+        Err(_) => Err(Halt::Broken {
             page: leaf,
             rule: 8,
         }),
@@ -82,13 +82,13 @@ impl RowVisitor for RecordRows {
         true
     }
 
-    fn visit(&mut self, leaf: u32, _rowid: i64, payload: &[u8]) -> Result<(), Stop> {
+    fn visit(&mut self, leaf: u32, _rowid: i64, payload: &[u8]) -> Result<(), Halt> {
         match try_record(self.alloc, leaf, self.columns, payload) {
             Ok(_values) => {
                 self.count = self.count.saturating_add(1);
                 Ok(())
             }
-            Err(stop) => Err(stop),
+            Err(halt) => Err(halt),
         }
     }
 }
@@ -110,7 +110,7 @@ impl RowVisitor for NoRows {
         false
     }
 
-    fn visit(&mut self, _leaf: u32, _rowid: i64, _payload: &[u8]) -> Result<(), Stop> {
+    fn visit(&mut self, _leaf: u32, _rowid: i64, _payload: &[u8]) -> Result<(), Halt> {
         Ok(())
     }
 }

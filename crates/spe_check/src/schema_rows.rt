@@ -5,8 +5,8 @@ ghost use Rattle.std.proofs.lemmas.Bool.{true≢false};
 ghost use Rattle.spe_check.specs.SchemaRows.{floor_of, is_free, schema_outlook, AreNames, TriesName};
 ghost use Rattle.spe_check.specs.Visitor.{IsOwn};
 
+use crate::halt::Halt;
 use crate::record_rows::try_record;
-use crate::stop::Stop;
 use crate::visitor::RowVisitor;
 use spe_catalog::{NameSet, SchemaRow};
 use std::alloc::{AllocError, Global};
@@ -88,7 +88,7 @@ impl SchemaRows {
     }
 
     // Keeps a row. Broken is rule 9, where it is a table whose name is taken.
-    fn try_name(&mut self, leaf: u32, row: SchemaRow) -> Result<(), Stop>
+    fn try_name(&mut self, leaf: u32, row: SchemaRow) -> Result<(), Halt>
         ensures tried { TriesName self.old.placed.items leaf row result }
         ensures kept { OnOk result (self.new.placed.items ≡ self.old.placed.items ++ (leaf, row) ∷ []) }
         ensures own { IfErr result IsOwn }
@@ -96,7 +96,7 @@ impl SchemaRows {
         if self.place(leaf, row)? {
             return Ok(());
         }
-        Err(Stop::Broken {
+        Err(Halt::Broken {
             page: leaf,
             rule: 9,
         })
@@ -116,14 +116,14 @@ impl RowVisitor for SchemaRows {
         true
     }
 
-    fn visit(&mut self, leaf: u32, rowid: i64, payload: &[u8]) -> Result<(), Stop> {
+    fn visit(&mut self, leaf: u32, rowid: i64, payload: &[u8]) -> Result<(), Halt> {
         let values = match try_record(self.alloc, leaf, 5, payload) {
             Ok(values) => values,
-            Err(stop) => return Err(stop),
+            Err(halt) => return Err(halt),
         };
         match SchemaRow::from_values(rowid, values.into_vec()) {
             Some(row) => self.try_name(leaf, row),
-            None => Err(Stop::Broken {
+            None => Err(Halt::Broken {
                 page: leaf,
                 rule: 9,
             }),

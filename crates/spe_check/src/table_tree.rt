@@ -4,17 +4,17 @@ ghost use Rattle.std.specs.Prelude.{◌≡◌, ◌≤◌, ◌<◌, ◌+◌, ℕ,
 ghost use Rattle.spe_model.specs.Tree.{rank};
 ghost use Rattle.spe_model.specs.Walk.{Mark, Keeps, is_within_bounds};
 ghost use Rattle.spe_check.specs.Chains.{kept_of};
-ghost use Rattle.spe_check.specs.Shown.{Walked, RefusesStop, AsksWithin};
+ghost use Rattle.spe_check.specs.Shown.{Walked, RefusesHalt, AsksWithin};
 ghost use Rattle.spe_check.specs.TableTree.{low_of, high_of, Rises, VisitsRow, TakesPayload, TriesRow, TriesRows, TriesTable, TriesTableFrom};
 ghost use Rattle.spe_check.specs.Tries.{IsBroken, Tries};
 ghost use Rattle.spe_check.specs.Visitor.{IsOwn};
 
 use crate::chain::try_chain;
+use crate::halt::Halt;
 use crate::index_tree::{level_of, rest_in};
 use crate::met::Met;
 use crate::page::{is_leaf, read_met, try_place};
 use crate::rule::try_rule;
-use crate::stop::Stop;
 use crate::visitor::RowVisitor;
 use spe_model::{Cell, PageCells};
 use spe_space::Pages;
@@ -47,7 +47,7 @@ fn is_within(low: Option<i64>, high: Option<i64>, cell: &Cell) -> bool
 }
 
 // Tries whether the key of a cell lies between two keys: above one, and at most the other.
-fn try_bound(low: Option<i64>, high: Option<i64>, page: u32, cell: &Cell) -> Result<(), Stop>
+fn try_bound(low: Option<i64>, high: Option<i64>, page: u32, cell: &Cell) -> Result<(), Halt>
     ensures tried { (count : ℕ) (met : ℕ → Bool) → Tries count met met (Keeps page 6 (is_within_bounds (low_of low) (high_of high) cell.now) ∷ []) result }
     ensures above { OnOk result (low_of low ≤ rank cell.now.key) }
     ensures below { OnOk result (rank cell.now.key < high_of high) }
@@ -76,11 +76,11 @@ fn take_payload<S: Pages>(
     wanted: bool,
     buf: &mut [u8],
     payload: &mut Vec<u8>,
-) -> Result<(), Stop>
+) -> Result<(), Halt>
     requires { length buf.old ≡ S.Pages.size space.old }
     ensures tried { TakesPayload S.Pages space.new met.old met.new page cell.now wanted payload.new.items result }
     ensures walked { Walked S.Pages space.old space.new met.old met.new }
-    ensures refusal { RefusesStop S.Pages space.old space.new result }
+    ensures refusal { RefusesHalt S.Pages space.old space.new result }
     ensures asks { AsksWithin met.old result }
 {
     begin(wanted, cell.local.as_slice(), payload)?;
@@ -102,7 +102,7 @@ fn visit_row<V: RowVisitor>(
     page: u32,
     cell: &Cell,
     payload: &[u8],
-) -> Result<(), Stop>
+) -> Result<(), Halt>
     ensures tried { VisitsRow V.RowVisitor visitor.old visitor.new page cell.now.key payload.now result }
     ensures above { Rises V.RowVisitor visitor.old visitor.new (rank cell.now.key) (rank cell.now.key + 1) result }
     ensures own { IfErr result IsOwn }
@@ -125,7 +125,7 @@ fn try_row<S: Pages, V: RowVisitor>(
     cell: &Cell,
     buf: &mut [u8],
     payload: &mut Vec<u8>,
-) -> Result<(), Stop>
+) -> Result<(), Halt>
     requires { length buf.old ≡ S.Pages.size space.old }
     ensures tried { TriesRow S.Pages V.RowVisitor space.new met.old met.new visitor.old visitor.new page (low_of low) (high_of high) cell.now result }
     ensures above { OnOk result (low_of low ≤ rank cell.now.key) }
@@ -133,17 +133,17 @@ fn try_row<S: Pages, V: RowVisitor>(
     ensures rises { Rises V.RowVisitor visitor.old visitor.new (low_of low) (rank cell.now.key + 1) result }
     ensures wanted { V.RowVisitor.wanted visitor.new ≡ V.RowVisitor.wanted visitor.old }
     ensures walked { Walked S.Pages space.old space.new met.old met.new }
-    ensures refusal { RefusesStop S.Pages space.old space.new result }
+    ensures refusal { RefusesHalt S.Pages space.old space.new result }
     ensures asks { AsksWithin met.old result }
 {
     match try_bound(low, high, page, cell) {
         Ok(()) => (),
-        Err(stop) => return Err(stop),
+        Err(halt) => return Err(halt),
     }
     let wanted = visitor.wants();
     match take_payload(space, met, page, cell, wanted, buf, payload) {
         Ok(()) => (),
-        Err(stop) => return Err(stop),
+        Err(halt) => return Err(halt),
     }
     visit_row(visitor, page, cell, payload.as_slice())
 }
@@ -167,14 +167,14 @@ fn try_rows<S: Pages, V: RowVisitor>(
     cells: &[Cell],
     buf: &mut [u8],
     payload: &mut Vec<u8>,
-) -> Result<u32, Stop>
+) -> Result<u32, Halt>
     requires { length buf.old ≡ S.Pages.size space.old }
     ensures tried { TriesRows S.Pages V.RowVisitor space.new met.old met.new visitor.old visitor.new page (low_of low) (high_of high) cells.now result }
     ensures level { IfOk result (λ level. level ≡ levels) }
     ensures rises { Rises V.RowVisitor visitor.old visitor.new (low_of low) (high_of high) result }
     ensures wanted { V.RowVisitor.wanted visitor.new ≡ V.RowVisitor.wanted visitor.old }
     ensures walked { Walked S.Pages space.old space.new met.old met.new }
-    ensures refusal { RefusesStop S.Pages space.old space.new result }
+    ensures refusal { RefusesHalt S.Pages space.old space.new result }
     ensures asks { AsksWithin met.old result }
 {
     let mut above = low;
@@ -182,7 +182,7 @@ fn try_rows<S: Pages, V: RowVisitor>(
     'rows: while let [cell, rest @ ..] = left {
         match try_row(space, met, visitor, above, high, page, cell, buf, payload) {
             Ok(()) => (),
-            Err(stop) => return Err(stop),
+            Err(halt) => return Err(halt),
         }
         above = key_of(cell);
         left = rest;
@@ -211,18 +211,18 @@ pub fn walk_table<S: Pages, V: RowVisitor>(
     page: u32,
     buf: &mut [u8],
     payload: &mut Vec<u8>,
-) -> Result<u32, Stop>
+) -> Result<u32, Halt>
     requires { length buf.old ≡ S.Pages.size space.old }
     ensures tried { TriesTable S.Pages V.RowVisitor space.new met.old met.new visitor.old visitor.new leaf levels (low_of low) (high_of high) holder page result }
     ensures rises { Rises V.RowVisitor visitor.old visitor.new (low_of low) (high_of high) result }
     ensures wanted { V.RowVisitor.wanted visitor.new ≡ V.RowVisitor.wanted visitor.old }
     ensures walked { Walked S.Pages space.old space.new met.old met.new }
-    ensures refusal { RefusesStop S.Pages space.old space.new result }
+    ensures refusal { RefusesHalt S.Pages space.old space.new result }
     ensures asks { AsksWithin met.old result }
 {
     let node = match read_met(alloc, space, met, holder, page, buf) {
         Ok(node) => node,
-        Err(stop) => return Err(stop),
+        Err(halt) => return Err(halt),
     };
     walk_table_from(
         alloc, space, met, visitor, leaf, levels, low, high, page, &node, buf, payload,
@@ -245,18 +245,18 @@ pub fn walk_table_from<S: Pages, V: RowVisitor>(
     node: &PageCells,
     buf: &mut [u8],
     payload: &mut Vec<u8>,
-) -> Result<u32, Stop>
+) -> Result<u32, Halt>
     requires { length buf.old ≡ S.Pages.size space.old }
     ensures tried { TriesTableFrom S.Pages V.RowVisitor space.new met.old met.new visitor.old visitor.new leaf levels (low_of low) (high_of high) page node.now result }
     ensures rises { Rises V.RowVisitor visitor.old visitor.new (low_of low) (high_of high) result }
     ensures wanted { V.RowVisitor.wanted visitor.new ≡ V.RowVisitor.wanted visitor.old }
     ensures walked { Walked S.Pages space.old space.new met.old met.new }
-    ensures refusal { RefusesStop S.Pages space.old space.new result }
+    ensures refusal { RefusesHalt S.Pages space.old space.new result }
     ensures asks { AsksWithin met.old result }
 {
     match try_place(true, leaf, levels, page, node.kind) {
         Ok(()) => (),
-        Err(stop) => return Err(stop),
+        Err(halt) => return Err(halt),
     }
     if is_leaf(node.kind) {
         let level = level_of(leaf, levels);
@@ -277,11 +277,11 @@ pub fn walk_table_from<S: Pages, V: RowVisitor>(
             alloc, space, met, visitor, stand, fewer, above, key, page, child, buf, payload,
         ) {
             Ok(level) => stand = Some(level),
-            Err(stop) => return Err(stop),
+            Err(halt) => return Err(halt),
         }
         match try_bound(above, high, page, cell) {
             Ok(()) => (),
-            Err(stop) => return Err(stop),
+            Err(halt) => return Err(halt),
         }
         above = key;
         left = rest;

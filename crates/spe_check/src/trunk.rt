@@ -3,13 +3,13 @@
 ghost use Rattle.std.specs.Prelude.{◌≡◌, ◌+◌, ◌-◌, ◌*◌, ◌/◌, ◌^◌, ◌≤◌, IfOk, IfErr, length, map, nat_le};
 ghost use Rattle.spe_model.specs.Walk.{Mark, Names};
 ghost use Rattle.spe_check.specs.MetPages.{has_met};
-ghost use Rattle.spe_check.specs.Shown.{Walked, RefusesStop, AsksWithin};
+ghost use Rattle.spe_check.specs.Shown.{Walked, RefusesHalt, AsksWithin};
 ghost use Rattle.spe_check.specs.Trunks.{leaves_in, GetsMet, TriesTrunkBytes, TriesTrunk, TriesTrunks};
 ghost use Rattle.spe_check.specs.Tries.{IsBroken, Tries};
 
+use crate::halt::Halt;
 use crate::met::Met;
 use crate::rule::try_rule;
-use crate::stop::Stop;
 use spe_model::u32_of;
 use spe_space::Pages;
 
@@ -23,7 +23,7 @@ pub struct Trunk {
 }
 
 // Meets the free pages that a trunk lists.
-fn try_leaves(met: &mut Met, trunk: u32, bytes: &[u8], count: usize) -> Result<(), Stop>
+fn try_leaves(met: &mut Met, trunk: u32, bytes: &[u8], count: usize) -> Result<(), Halt>
     requires { 8 + 4 * count ≤ length bytes.now }
     ensures tried { Tries met.old.pages (has_met met.old) (has_met met.new) (map (Names trunk) (leaves_in bytes.now count)) result }
     ensures pages { met.new.pages ≡ met.old.pages }
@@ -32,7 +32,7 @@ fn try_leaves(met: &mut Met, trunk: u32, bytes: &[u8], count: usize) -> Result<(
     for index in 0..count {
         match met.meet(trunk, u32_of(bytes, 8 + 4 * index)) {
             Ok(()) => (),
-            Err(stop) => return Err(stop),
+            Err(halt) => return Err(halt),
         }
     }
     Ok(())
@@ -46,7 +46,7 @@ fn has_room(leaves: u32, usable: usize) -> bool
 }
 
 // Tries what the bytes of a trunk name, once it is met.
-fn trunk_in(met: &mut Met, trunk: u32, bytes: &[u8], usable: usize) -> Result<Trunk, Stop>
+fn trunk_in(met: &mut Met, trunk: u32, bytes: &[u8], usable: usize) -> Result<Trunk, Halt>
     requires low { 480 ≤ usable }
     requires high { usable ≤ 65536 }
     requires inside { usable ≤ length bytes.now }
@@ -58,14 +58,14 @@ fn trunk_in(met: &mut Met, trunk: u32, bytes: &[u8], usable: usize) -> Result<Tr
     let leaves = u32_of(bytes, 4);
     match try_rule(has_room(leaves, usable), trunk, 10) {
         Ok(()) => (),
-        Err(stop) => return Err(stop),
+        Err(halt) => return Err(halt),
     }
     match try_leaves(met, trunk, bytes, leaves as usize) {
         Ok(()) => Ok(Trunk {
             next: u32_of(bytes, 0),
             leaves,
         }),
-        Err(stop) => Err(stop),
+        Err(halt) => Err(halt),
     }
 }
 
@@ -76,16 +76,16 @@ pub fn get_met<S: Pages>(
     holder: u32,
     page: u32,
     buf: &mut [u8],
-) -> Result<(), Stop>
+) -> Result<(), Halt>
     requires { length buf.old ≡ S.Pages.size space.old }
     ensures tried { GetsMet S.Pages space.new met.old met.new holder page buf.new result }
     ensures walked { Walked S.Pages space.old space.new met.old met.new }
-    ensures refusal { RefusesStop S.Pages space.old space.new result }
+    ensures refusal { RefusesHalt S.Pages space.old space.new result }
     ensures asks { AsksWithin met.old result }
 {
     match met.meet(holder, page) {
         Ok(()) => (),
-        Err(stop) => return Err(stop),
+        Err(halt) => return Err(halt),
     }
     space.get(page, buf)?;
     Ok(())
@@ -98,18 +98,18 @@ fn try_trunk<S: Pages>(
     holder: u32,
     trunk: u32,
     buf: &mut [u8],
-) -> Result<Trunk, Stop>
+) -> Result<Trunk, Halt>
     requires { length buf.old ≡ S.Pages.size space.old }
     ensures tried { TriesTrunk S.Pages space.new met.old met.new holder trunk result }
     ensures few { IfOk result (λ found. found.leaves ≤ 16384) }
     ensures walked { Walked S.Pages space.old space.new met.old met.new }
-    ensures refusal { RefusesStop S.Pages space.old space.new result }
+    ensures refusal { RefusesHalt S.Pages space.old space.new result }
     ensures asks { AsksWithin met.old result }
 {
     let usable = space.usable() as usize;
     match get_met(space, met, holder, trunk, buf) {
         Ok(()) => (),
-        Err(stop) => return Err(stop),
+        Err(halt) => return Err(halt),
     }
     trunk_in(met, trunk, buf, usable)
 }
@@ -125,12 +125,12 @@ pub fn try_trunks<S: Pages>(
     holder: u32,
     first: u32,
     buf: &mut [u8],
-) -> Result<u64, Stop>
+) -> Result<u64, Halt>
     requires { length buf.old ≡ S.Pages.size space.old }
     ensures tried { TriesTrunks S.Pages space.new met.old met.new holder first result }
     ensures few { IfOk result (λ free. free ≤ 2 ^ 48) }
     ensures walked { Walked S.Pages space.old space.new met.old met.new }
-    ensures refusal { RefusesStop S.Pages space.old space.new result }
+    ensures refusal { RefusesHalt S.Pages space.old space.new result }
     ensures asks { AsksWithin met.old result }
 {
     let mut most = met.pages;
@@ -141,12 +141,12 @@ pub fn try_trunks<S: Pages>(
         if most == 0 {
             return match met.meet(at, trunk) {
                 Ok(()) => Ok(free),
-                Err(stop) => Err(stop),
+                Err(halt) => Err(halt),
             };
         }
         let found = match try_trunk(space, met, at, trunk, buf) {
             Ok(found) => found,
-            Err(stop) => return Err(stop),
+            Err(halt) => return Err(halt),
         };
         free += 1 + u64::from(found.leaves);
         most -= 1;

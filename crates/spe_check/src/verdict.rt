@@ -5,14 +5,14 @@ ghost use Rattle.spe_model.specs.Served.{usable_in};
 ghost use Rattle.spe_space.specs.Calls.{Reads};
 ghost use Rattle.spe_space.specs.Outcome.{IsInside, OnPageOut, refusal_after};
 ghost use Rattle.spe_check.specs.Check.{GivesVerdict};
-ghost use Rattle.spe_check.specs.Shown.{Walked, RefusesStop, AsksWithin};
+ghost use Rattle.spe_check.specs.Shown.{Walked, RefusesHalt, AsksWithin};
 ghost use Rattle.spe_check.specs.Verdicts.{narrowed, tables_among, with_row, TriesAll, TriesSchema};
 
 use crate::free_lists::try_free;
+use crate::halt::Halt;
 use crate::met::Met;
 use crate::objects::{tree_levels, try_objects};
 use crate::schema_rows::{Placed, SchemaRows};
-use crate::stop::Stop;
 use crate::table_tree::walk_table;
 use spe_model::{Header, Verdict};
 use spe_space::{Pages, SpaceFault};
@@ -56,11 +56,11 @@ fn try_schema<S: Pages>(
     space: &mut S,
     met: &mut Met,
     buf: &mut [u8],
-) -> Result<Vec<Placed>, Stop>
+) -> Result<Vec<Placed>, Halt>
     requires { length buf.old ≡ S.Pages.size space.old }
     ensures tried { TriesSchema S.Pages space.new met.old met.new result }
     ensures walked { Walked S.Pages space.old space.new met.old met.new }
-    ensures refusal { RefusesStop S.Pages space.old space.new result }
+    ensures refusal { RefusesHalt S.Pages space.old space.new result }
     ensures asks { AsksWithin met.old result }
 {
     let levels = tree_levels();
@@ -81,7 +81,7 @@ fn try_schema<S: Pages>(
         &mut payload,
     ) {
         Ok(_level) => Ok(rows.into_placed()),
-        Err(stop) => Err(stop),
+        Err(halt) => Err(halt),
     }
 }
 
@@ -92,20 +92,20 @@ fn try_all<S: Pages>(
     met: &mut Met,
     header: &Header,
     buf: &mut [u8],
-) -> Result<Verdict, Stop>
+) -> Result<Verdict, Halt>
     requires { length buf.old ≡ S.Pages.size space.old }
     ensures tried { TriesAll S.Pages space.new met.old met.new header.now result }
     ensures walked { Walked S.Pages space.old space.new met.old met.new }
-    ensures refusal { RefusesStop S.Pages space.old space.new result }
+    ensures refusal { RefusesHalt S.Pages space.old space.new result }
     ensures asks { AsksWithin met.old result }
 {
     let placed = match try_schema(alloc, space, met, buf) {
         Ok(placed) => placed,
-        Err(stop) => return Err(stop),
+        Err(halt) => return Err(halt),
     };
     let rows = match try_objects(alloc, space, met, placed.as_slice(), buf) {
         Ok(rows) => rows,
-        Err(stop) => return Err(stop),
+        Err(halt) => return Err(halt),
     };
     match try_free(space, met, header, buf) {
         Ok(free) => Ok(Verdict::Stands {
@@ -113,7 +113,7 @@ fn try_all<S: Pages>(
             rows,
             free: narrowed(free),
         }),
-        Err(stop) => Err(stop),
+        Err(halt) => Err(halt),
     }
 }
 
@@ -142,7 +142,7 @@ pub fn check<S: Pages>(
     let mut buf = vec![in alloc; 0u8; space.page_size() as usize]?;
     match try_all(alloc, space, &mut met, header, buf.as_mut_slice()) {
         Ok(verdict) => Ok(verdict),
-        Err(Stop::Broken { page, rule }) => Ok(Verdict::Broken { page, rule }),
-        Err(Stop::Space(fault)) => Err(fault),
+        Err(Halt::Broken { page, rule }) => Ok(Verdict::Broken { page, rule }),
+        Err(Halt::Space(fault)) => Err(fault),
     }
 }

@@ -1,6 +1,6 @@
 //! What is done with the rows of a table's tree while it is walked.
 
-use crate::stop::Stop;
+use crate::halt::Halt;
 
 /// Visits the rows of a table's tree in the order of the walk, and tries what is to be tried of each.
 ///
@@ -26,7 +26,7 @@ pub trait RowVisitor {
         ensures value { result ≡ wanted self.now };
 
     /// Visits a row.
-    fn visit(&mut self, leaf: u32, rowid: i64, payload: &[u8]) -> Result<(), Stop>
+    fn visit(&mut self, leaf: u32, rowid: i64, payload: &[u8]) -> Result<(), Halt>
         ensures tried { (count : ℕ) (met : ℕ → Bool) (later : List LeafRow) → floor self.old ≤ rank rowid
             → Tries count met met ((outlook self.old ((leaf, rowid, payload.now) ∷ later)).marks leaf rowid payload.now) result }
         ensures next { OnOk result ((later : List LeafRow) → outlook self.new later ≡ outlook self.old ((leaf, rowid, payload.now) ∷ later)) }

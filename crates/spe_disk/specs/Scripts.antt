@@ -1,8 +1,8 @@
 -- What reading a script answers.
-use Rattle.std.specs.Prelude.{◌≡◌, ℕ, ◌≤◌, List, Option, Some, None, Result, Ok, Err, Vec, IfErr}
+use Rattle.std.specs.Prelude.{◌≡◌, ℕ, List, Option, Some, None, Result, Ok, Err, Vec}
 use Rattle.std.specs.Option.{option_map}
 use Rattle.std.specs.declared.alloc.Global.{Global}
-use Rattle.spe_model.specs.Faults.{Rose}
+use Rattle.spe_disk.specs.Listed.{next_number}
 use Rattle.spe_disk.specs.declared.scripts.ScriptFault.{ScriptFault}
 use Rattle.spe_disk.specs.declared.scripts.ScriptFault.TheVariants as faults
 
@@ -19,12 +19,8 @@ ReadsText None name result = Unit {0}
 ReadsText (Some texts) name (Ok found) = bytes_in found ≡ texts name
 ReadsText (Some texts) name (Err fault) = Unit {0}
 
--- want of memory is no fault of the outside
-abbrev pub IsCausedBy : ℕ → ℕ → ScriptFault → Type 0
-IsCausedBy before now faults.Failed = Rose before now
-IsCausedBy before now (faults.Memory e) = Unit {0}
-
--- a count never falls, and has risen where the outside failed
-pub record HasScriptCause {T : Type 0} (before now : ℕ) (result : Result T ScriptFault) : Type 0 where
-  pub later : before ≤ now
-  pub failed : IfErr result (IsCausedBy before now)
+-- A count of faults is the next one where the outside failed, and else stays: want of memory is no fault of the outside.
+abbrev pub CountsScriptFault : {T : Type 0} → (before now : ℕ) → Result T ScriptFault → Type 0
+CountsScriptFault before now (Ok x) = now ≡ before
+CountsScriptFault before now (Err faults.Failed) = now ≡ next_number before
+CountsScriptFault before now (Err (faults.Memory e)) = now ≡ before

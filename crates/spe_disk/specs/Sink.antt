@@ -1,7 +1,7 @@
 -- What a sink takes.
-use Rattle.std.specs.Prelude.{◌≡◌, ℕ, ◌<◌, ◌≤◌, List, ◌++◌, length, take, Option, Some, None, Result, Ok, Err, OnErr}
+use Rattle.std.specs.Prelude.{◌≡◌, ℕ, List, ◌++◌, take, Option, Some, None, Result, Ok, Err}
 use Rattle.spe_disk.specs.declared.disk.Failed.{Failed}
-use Rattle.spe_model.specs.Faults.{Rose}
+use Rattle.spe_disk.specs.Listed.{next_number}
 
 -- the bytes were added
 abbrev pub Appends : Option (List ℕ) → Option (List ℕ) → List ℕ → Type 0
@@ -17,11 +17,10 @@ abbrev pub Takes : Option (List ℕ) → Option (List ℕ) → List ℕ → Resu
 Takes old new bytes (Ok n) = Appends old new (take n bytes)
 Takes old new bytes (Err e) = AppendsFront old new bytes
 
--- The count never falls, and has risen where the call failed or took none of a piece that has bytes.
-pub record HasSinkCause (before now : ℕ) (bytes : List ℕ) (result : Result ℕ Failed) : Type 0 where
-  pub later : before ≤ now
-  pub failed : OnErr result (Rose before now)
-  pub nothing : result ≡ Ok 0 → 0 < length bytes → Rose before now
+-- A count of faults stays where the call answers Ok, and is the next one where it failed: of all pieces that it puts, one failed.
+abbrev pub CountsFault : {T : Type 0} → (before now : ℕ) → Result T Failed → Type 0
+CountsFault before now (Ok x) = now ≡ before
+CountsFault before now (Err e) = now ≡ next_number before
 
 -- what is left of the bytes, with what was added of them
 abbrev pub AddedBefore : Option (List ℕ) → Option (List ℕ) → List ℕ → List ℕ → Type 0

@@ -7,9 +7,11 @@ ghost use Rattle.spe_model.specs.Faults.{HasCause};
 ghost use Rattle.spe_disk.specs.Told.{NothingDone, Finds, Measures, Reads, Writes, Cuts, MakesJournals};
 
 use spe_model::FileNo;
+use thiserror::Error;
 
 /// The outside has failed.
-#[derive(Clone, Copy, Debug, PartialEq, Eq)]
+#[derive(Clone, Copy, Debug, PartialEq, Eq, Error)]
+#[error("the disk or the output failed")]
 pub struct Failed;
 
 /// The files of one database.

@@ -56,7 +56,7 @@ impl MemScripts {
 
 impl Scripts for MemScripts {
     ghost use Rattle.std.specs.Prelude.{◌≡◌, Some};
-    ghost use Rattle.spe_disk.specs.Scripts.{ReadsText, HasScriptCause};
+    ghost use Rattle.spe_disk.specs.Scripts.{ReadsText, CountsScriptFault};
     ghost use Rattle.spe_disk.specs.MemScripts.{texts_of, script_faults, ScriptsAsListed};
 
     ghost texts = { λ s. Some (texts_of s) };
@@ -66,7 +66,7 @@ impl Scripts for MemScripts {
     fn read(&mut self, alloc: Global, name: &str) -> Result<Option<Vec<u8>>, ScriptFault>
         ensures text { ReadsText (Some (texts_of self.old)) name.now result }
         ensures same { Some (texts_of self.new) ≡ Some (texts_of self.old) }
-        ensures cause { HasScriptCause (script_faults self.old) (script_faults self.new) result }
+        ensures counts { CountsScriptFault (script_faults self.old) (script_faults self.new) result }
         ensures listed { ScriptsAsListed self.old self.new result }
     {
         self.calls = self.calls.saturating_add(1);

@@ -60,8 +60,8 @@ impl MemSink {
 }
 
 impl Sink for MemSink {
-    ghost use Rattle.std.specs.Prelude.{◌≤◌, Some, IfOk, length};
-    ghost use Rattle.spe_disk.specs.Sink.{Takes, HasSinkCause};
+    ghost use Rattle.std.specs.Prelude.{◌≡◌, ◌≤◌, [], Some, Ok, IfOk, length};
+    ghost use Rattle.spe_disk.specs.Sink.{Takes, CountsFault};
     ghost use Rattle.spe_disk.specs.MemSink.{bytes_taken, sink_faults, PutsAsListed};
 
     ghost taken = { λ s. Some (bytes_taken s) };
@@ -71,7 +71,8 @@ impl Sink for MemSink {
     fn put(&mut self, bytes: &[u8]) -> Result<usize, Failed>
         ensures within { IfOk result (λ n. n ≤ length bytes.now) }
         ensures takes { Takes (Some (bytes_taken self.old)) (Some (bytes_taken self.new)) bytes.now result }
-        ensures cause { HasSinkCause (sink_faults self.old) (sink_faults self.new) bytes.now result }
+        ensures some { result ≡ Ok 0 → bytes.now ≡ [] }
+        ensures counts { CountsFault (sink_faults self.old) (sink_faults self.new) result }
         ensures listed { PutsAsListed self.old self.new bytes.now result }
     {
         self.calls = self.calls.saturating_add(1);

@@ -1,17 +1,20 @@
 //! Scripts by name.
 
 ghost use Rattle.std.specs.Prelude.{◌≡◌, List, ℕ, Option};
-ghost use Rattle.spe_disk.specs.Scripts.{Texts, ReadsText, HasScriptCause};
+ghost use Rattle.spe_disk.specs.Scripts.{Texts, ReadsText, CountsScriptFault};
 
 use std::alloc::{AllocError, Global};
+use thiserror::Error;
 
 /// Why a script is not read.
-#[derive(Debug, Drop)]
+#[derive(Debug, Drop, Error)]
 pub enum ScriptFault {
     /// The outside has failed.
+    #[error("the script could not be read")]
     Failed,
     /// There was no memory for the text.
-    Memory(AllocError),
+    #[error("out of memory")]
+    Memory(#[source] AllocError),
 }
 
 impl From<AllocError> for ScriptFault {
@@ -37,5 +40,5 @@ pub trait Scripts {
     fn read(&mut self, alloc: Global, name: &str) -> Result<Option<Vec<u8>>, ScriptFault>
         ensures text { ReadsText (texts self.old) name.now result }
         ensures same { texts self.new ≡ texts self.old }
-        ensures cause { HasScriptCause (faults self.old) (faults self.new) result };
+        ensures counts { CountsScriptFault (faults self.old) (faults self.new) result };
 }

@@ -4,12 +4,9 @@ use Rattle.spe_model.specs.declared.catalog.Entry.{Entry}
 use Rattle.spe_model.specs.declared.statement.Cond.{Cond}
 use Rattle.spe_model.specs.declared.statement.Statement.{Statement}
 use Rattle.spe_model.specs.declared.statement.Statement.TheVariants as statements
-use Rattle.spe_model.specs.declared.table.TableDef.{TableDef}
-use Rattle.spe_model.specs.Conditions.{chosen}
 use Rattle.spe_model.specs.Database.{Database}
 use Rattle.spe_model.specs.Paging.{Paging, Agrees}
 use Rattle.spe_model.specs.Rows.{table_named}
-use Rattle.spe_model.specs.Standing.{AreTableRows}
 use Rattle.spe_model.specs.Statement.{table_name, conds_of}
 use Rattle.spe_model.specs.Tree.{rank, IsTableTree, tree_rows}
 use Rattle.spe_space.specs.Calls.{Reads, sight}
@@ -19,12 +16,10 @@ use Rattle.spe_slow.specs.Refused.{rowless_refusal}
 use Rattle.spe_exec.specs.declared.bounds.Span.{Span}
 use Rattle.spe_exec.specs.Bounds.{Bounds}
 use Rattle.spe_exec.specs.Finding.{entry_named}
-use Rattle.spe_exec.specs.Rows.{IsDamaged}
-use Rattle.spe_exec.specs.Run.{stored_chosen, AreRowsOf, StandsWith}
-use Rattle.spe_exec.specs.Adds.{AddsChosen, AddsNone, AddsOfRows, AddsOfTable, IsPageOf}
-use Rattle.spe_exec.proofs.ChosenLemmas.{chosen_rows}
+use Rattle.spe_exec.specs.Run.{AreRowsOf, StandsWith}
+use Rattle.spe_exec.specs.Adds.{AddsChosen, AddsOfRows, AddsOfTable, IsPageOf}
 use Rattle.spe_exec.proofs.TableLemmas.{FindsTable, table_found}
-use Rattle.spe_exec.proofs.ReadsLemmas.{no_row, open_if}
+use Rattle.spe_exec.proofs.ReadsLemmas.{open_if}
 
 pub adds_range : {P : Type 0} (g : Ghosts P) (early late : P) (root : ℕ) (conds : List Cond) (o : Option Span) (span : Span) (low high : ℤ) → o ≡ Some span → Bounds conds o → low ≡ span.low → high ≡ span.high
     → AddsOfRange g early late root (rank low) (rank high) → AddsChosen g early late root conds
@@ -34,24 +29,6 @@ adds_range {P} g early late root conds o span low high e bounds l h adds pages a
     elim (a pages agrees height 0 18446744073709551616 tree.1 n) [
       | inl same ↦ inl same
       | inr page ↦ inr (record { span = span; bounds = b; height = height; tree = tree; page = page })
-    ]
-
-pub adds_damage : {P : Type 0} (g : Ghosts P) (early late : P) (table : TableDef) (stored : List (ℤ × List ℕ)) (rowid : ℤ) → IsDamaged table stored rowid → AddsNone g early late table stored
-adds_damage g early late table stored rowid bad rows are n = absurd (no_row table stored rows bad.row are bad.inside bad.none)
-
--- the rows that are chosen are shown without more pages
-pub adds_select : {P : Type 0} (g : Ghosts P) (early mid late : P) (entry : Entry) (conds : List Cond) (stored slice : List (ℤ × List ℕ)) → Reads g mid late → slice ≡ stored
-    → AddsChosen g early mid entry.root conds → AddsNone g mid late entry.table slice
-    → ((pages : Paging) → Agrees pages (g.seen late) → (height : ℕ) → IsTableTree (g.used early) (sight g early pages) height entry.root
-    → stored ≡ stored_chosen conds (tree_rows (g.used early) (sight g early pages) height entry.root))
-    → AddsOfRows g early late entry conds
-adds_select g early mid late entry conds stored slice reads e first second found pages agrees rows of n =
-    let h : AreTableRows entry.table slice (chosen conds rows) =
-    subst (λ (xs : List (ℤ × List ℕ)). AreTableRows entry.table xs (chosen conds rows)) (sym (e ∙ found pages agrees of.height of.tree))
-    (chosen_rows entry.table conds (tree_rows (g.used early) (sight g early pages) of.height entry.root) rows of.rows_are) in
-    elim (first pages (reads.earlier pages agrees) of.height of.tree n) [
-      | inl same ↦ inl (second (chosen conds rows) h n ∙ same)
-      | inr page ↦ inr page
     ]
 
 pub adds_rows : {P : Type 0} (g : Ghosts P) (early late : P) (entry : Entry) (conds : List Cond) → AddsChosen g early late entry.root conds → AddsOfRows g early late entry conds

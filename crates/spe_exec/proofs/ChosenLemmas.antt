@@ -11,7 +11,6 @@ use Rattle.spe_model.specs.Standing.{AreTableRows}
 use Rattle.spe_model.specs.Tree.{rank, tree_rows}
 use Rattle.spe_space.specs.Found.{Answers}
 use Rattle.spe_space.specs.declared.fault.TreeFault.{TreeFault}
-use Rattle.spe_catalog.specs.Leaf.{Has}
 use Rattle.spe_exec.specs.declared.bounds.Span.{Span}
 use Rattle.spe_exec.specs.Bounds.{IsRowid, Bounds}
 use Rattle.spe_exec.specs.Run.{stored_chosen}
@@ -51,8 +50,8 @@ found_some usable pages height root conds o span low high e bounds l h fits fits
     (λ r is. rw (rank_sorts low r.0 fits is, rank_sorts r.0 high is fits_too, l, h) (b r.0 is))
     (tree_rows usable pages height root) (tree_numbered usable pages height root)
 
-pub answers_to : (there other : List (ℤ × List ℕ)) (result : Result (List (ℤ × List ℕ)) TreeFault) → there ≡ other → Answers (λ rows. rows) there result → Answers (λ rows. rows) other result
-answers_to there other result e h = subst (λ (x : List (ℤ × List ℕ)). Answers (λ rows. rows) x result) e h
+pub answers_to : {X : Type 0} (view : X → List (ℤ × List ℕ)) (there other : List (ℤ × List ℕ)) (result : Result X TreeFault) → there ≡ other → Answers view there result → Answers view other result
+answers_to view there other result e h = subst (λ (x : List (ℤ × List ℕ)). Answers view x result) e h
 
 -- the rows that are chosen are those of what is stored and chosen
 pub chosen_rows : (table : TableDef) (conds : List Cond) (stored : List (ℤ × List ℕ)) (rows : List Row) → AreTableRows table stored rows
@@ -72,16 +71,3 @@ same_count table [] [] h = refl
 same_count table [] (r ∷ rs) h = absurd h
 same_count table (x ∷ xs) [] h = absurd h
 same_count table (x ∷ xs) (r ∷ rs) h = ap suc (same_count table xs rs h.1)
-
--- a row that is chosen is one of all
-pub chosen_has : (conds : List Cond) (stored : List (ℤ × List ℕ)) (row : ℤ × List ℕ) → Has (stored_chosen conds stored) row → Has stored row
-chosen_has conds [] row h = h
-chosen_has conds (x ∷ xs) row h = go (is_chosen conds x.0) refl h (λ there. chosen_has conds xs row there)
-  where
-    by : (Has (stored_chosen conds xs) row → Has xs row) → Has (x ∷ stored_chosen conds xs) row → Has (x ∷ xs) row
-    by more (inl same) = inl same
-    by more (inr there) = inr (more there)
-
-    go : (b : Bool) → is_chosen conds x.0 ≡ b → Has (stored_chosen conds (x ∷ xs)) row → (Has (stored_chosen conds xs) row → Has xs row) → Has (x ∷ xs) row
-    go true e h more = by more (rw e at h)
-    go false e h more = inr (more (rw e at h))

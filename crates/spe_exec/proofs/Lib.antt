@@ -7,3 +7,4 @@ mod ReadsLemmas
 mod AddsLemmas
 mod MissesLemmas
 mod JustifyingLemmas
+mod InsideLemmas

@@ -3,14 +3,11 @@ use Rattle.std.proofs.Common.{◌≡◌, ◌⊎◌, ℕ, ℤ, ◌<◌, List, Opt
 use Rattle.spe_model.specs.declared.catalog.Entry.{Entry}
 use Rattle.spe_model.specs.declared.statement.Cond.{Cond}
 use Rattle.spe_model.specs.declared.statement.Statement.{Statement}
-use Rattle.spe_model.specs.declared.table.TableDef.{TableDef}
-use Rattle.spe_model.specs.Conditions.{chosen}
 use Rattle.spe_model.specs.Database.{Database}
 use Rattle.spe_model.specs.Paging.{Paging, Agrees}
 use Rattle.spe_model.specs.Rows.{table_named}
-use Rattle.spe_model.specs.Standing.{AreTableRows}
 use Rattle.spe_model.specs.Statement.{table_name, conds_of}
-use Rattle.spe_model.specs.Tree.{rank, IsTableTree, tree_rows}
+use Rattle.spe_model.specs.Tree.{rank, IsTableTree}
 use Rattle.spe_space.specs.Calls.{sight}
 use Rattle.spe_space.specs.Found.{OnMissing, misses_weaker}
 use Rattle.spe_space.specs.declared.pages.Pages.{Ghosts}
@@ -21,12 +18,10 @@ use Rattle.spe_slow.specs.Refused.{rowless_refusal}
 use Rattle.spe_exec.specs.declared.bounds.Span.{Span}
 use Rattle.spe_exec.specs.Bounds.{Bounds}
 use Rattle.spe_exec.specs.Finding.{entry_named}
-use Rattle.spe_exec.specs.Rows.{IsDamaged}
-use Rattle.spe_exec.specs.Run.{stored_chosen, AreRowsOf, StandsWith}
-use Rattle.spe_exec.specs.Misses.{IsAskedFor, MissesChosen, MissesNone, MissesOfRows, MissesOfTable, IsAskedOf}
-use Rattle.spe_exec.proofs.ChosenLemmas.{chosen_rows}
+use Rattle.spe_exec.specs.Run.{AreRowsOf, StandsWith}
+use Rattle.spe_exec.specs.Misses.{IsAskedFor, IsAskedOpen, MissesChosen, MissesOfRows, MissesOfTable, IsAskedOf}
 use Rattle.spe_exec.proofs.TableLemmas.{FindsTable, table_found}
-use Rattle.spe_exec.proofs.ReadsLemmas.{no_row, open_if}
+use Rattle.spe_exec.proofs.ReadsLemmas.{open_if}
 
 pub misses_range : {P X : Type 0} (g : Ghosts P) (early late : P) (root : ℕ) (conds : List Cond) (result : Result X TreeFault) (o : Option Span) (span : Span) (low high : ℤ) → o ≡ Some span
     → Bounds conds o → low ≡ span.low → high ≡ span.high → MissesInRange g early late root (rank low) (rank high) result → MissesChosen g early late root conds result
@@ -38,20 +33,6 @@ misses_range g early late root conds result o span low high e bounds l h misses 
     (IsAskedFor (g.used early) (sight g early pages) root conds) result
     (λ n page. record { span = span; bounds = b; height = height; tree = tree; page = page }) (m pages agrees height 0 18446744073709551616 tree.1)
 
-pub misses_damage : (X : Type 0) (table : TableDef) (stored : List (ℤ × List ℕ)) (rowid : ℤ) (fault : TreeFault) → IsDamaged table stored rowid → MissesNone {X = X} table stored (Err fault)
-misses_damage X table stored rowid fault bad rows are = absurd (no_row table stored rows bad.row are bad.inside bad.none)
-
-pub misses_select : {P X : Type 0} (g : Ghosts P) (early late : P) (entry : Entry) (conds : List Cond) (stored slice : List (ℤ × List ℕ)) (result : Result X TreeFault) → slice ≡ stored
-    → MissesNone entry.table slice result
-    → ((pages : Paging) → Agrees pages (g.seen late) → (height : ℕ) → IsTableTree (g.used early) (sight g early pages) height entry.root
-    → stored ≡ stored_chosen conds (tree_rows (g.used early) (sight g early pages) height entry.root))
-    → MissesOfRows g early late entry conds result
-misses_select g early late entry conds stored slice result e none found pages agrees rows of =
-    let h : AreTableRows entry.table slice (chosen conds rows) =
-    subst (λ (xs : List (ℤ × List ℕ)). AreTableRows entry.table xs (chosen conds rows)) (sym (e ∙ found pages agrees of.height of.tree))
-    (chosen_rows entry.table conds (tree_rows (g.used early) (sight g early pages) of.height entry.root) rows of.rows_are) in
-    misses_weaker (λ at. ⊥) (IsAskedFor (g.used early) (sight g early pages) entry.root conds) result (λ n h. absurd h) (none (chosen conds rows) h)
-
 pub misses_conds : {P X : Type 0} (g : Ghosts P) (early late : P) (entry : Entry) (conds others : List Cond) (result : Result X TreeFault) → conds ≡ others
     → MissesOfRows g early late entry conds result → MissesOfRows g early late entry others result
 misses_conds g early late entry conds others result e misses = subst (λ (cs : List Cond). MissesOfRows g early late entry cs result) e misses
@@ -60,7 +41,8 @@ pub misses_table : {P X : Type 0} (g : Ghosts P) (early late : P) (entry : Entry
     → MissesOfRows g early late entry (conds_of s) result → MissesOfTable g early late entry (conds_of s) result
 misses_table g early late entry s result none misses pages agrees rows holds =
     let of : AreRowsOf (g.used early) (sight g early pages) entry rows = rw (open_if entry.table s none) at holds in
-    misses pages agrees rows of
+    misses_weaker (IsAskedFor (g.used early) (sight g early pages) entry.root (conds_of s)) (IsAskedOpen (g.used early) (sight g early pages) entry (conds_of s)) result
+    (λ n page. (open_if entry.table s none, page)) (misses pages agrees rows of)
 
 pub misses_statement : {P X : Type 0} (g : Ghosts P) (early late : P) (catalog : List Entry) (s : Statement) (name : List ℕ) (entry : Entry) (result : Result X TreeFault) → name ≡ table_name s
     → Some entry ≡ entry_named name catalog → MissesOfTable g early late entry (conds_of s) result
@@ -71,5 +53,5 @@ misses_statement g early late catalog s name entry result m f misses pages agree
     let found : FindsTable (g.used early) (sight g early pages) (Some entry) (table_named (table_name s) db) =
     subst (λ (o : Option Entry). FindsTable (g.used early) (sight g early pages) o (table_named (table_name s) db)) e
     (table_found (g.used early) count (sight g early pages) catalog db (table_name s) stands) in
-    misses_weaker (IsAskedFor (g.used early) (sight g early pages) entry.root (conds_of s)) (IsAskedOf (g.used early) (sight g early pages) catalog s) result
-    (λ n page. record { entry = entry; named = e; page = page }) (misses pages agrees found.0 found.2)
+    misses_weaker (IsAskedOpen (g.used early) (sight g early pages) entry (conds_of s)) (IsAskedOf (g.used early) (sight g early pages) catalog s) result
+    (λ n page. record { entry = entry; named = e; is_open = page.0; page = page.1 }) (misses pages agrees found.0 found.2)

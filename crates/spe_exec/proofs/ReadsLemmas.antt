@@ -1,6 +1,11 @@
 -- What a statement that reads answers.
-use Rattle.std.proofs.Common.{◌≡◌, ◌⊎◌, inl, inr, ℕ, ℤ, Bool, true, false, ◌&&◌, List, [], ◌∷◌, length, map, Option, Some, None, Result, Ok, Err, is_some, refl, sym, ap, ◌∙◌, subst}
+use Rattle.std.proofs.Common.{◌≡◌, ◌⊎◌, inl, inr, ℕ, zero, suc, ℤ, ◌<◌, Bool, true, false, ◌&&◌, List, [], ◌∷◌, length, map, Option, Some, None, Result, Ok, Err, is_some, refl, sym, ap, ◌∙◌, arith, subst}
+use Rattle.std.specs.List.{Contains}
+use Rattle.std.specs.declared.vec.Vec.{Vec}
+use Rattle.std.specs.declared.alloc.Global.{Global}
 use Rattle.std.proofs.lemmas.Bool.{false≢true}
+use Rattle.std.proofs.lemmas.List.{length-map}
+use Rattle.spe_model.specs.declared.value.Value.{Value}
 use Rattle.spe_model.specs.declared.catalog.Entry.{Entry}
 use Rattle.spe_model.specs.declared.table.TableDef.{TableDef}
 use Rattle.spe_model.specs.declared.naming.Named.{Named}
@@ -22,49 +27,44 @@ use Rattle.spe_model.specs.Refusals.{is_rowid_taken, are_rowids_used_up, is_too_
 use Rattle.spe_model.specs.Rows.{table_named, selected}
 use Rattle.spe_model.specs.Standing.{AreTableRows}
 use Rattle.spe_model.specs.Statement.{table_name, is_write, is_read_only}
-use Rattle.spe_model.specs.Tree.{rank, IsTableTree, tree_rows}
+use Rattle.spe_model.specs.Tree.{IsTableTree, tree_rows}
 use Rattle.spe_space.specs.Calls.{Reads, sight}
 use Rattle.spe_space.specs.Found.{Answers}
 use Rattle.spe_space.specs.declared.pages.Pages.{Ghosts}
 use Rattle.spe_space.specs.declared.fault.TreeFault.{TreeFault}
 use Rattle.spe_space.specs.declared.fault.TreeFault.TheVariants.{Space, Corrupt}
+use Rattle.spe_search.specs.declared.pairs.Pair.{Pair}
 use Rattle.spe_search.specs.Found.{HasCause}
+use Rattle.spe_search.specs.Leaves.{IsRead}
+use Rattle.spe_search.specs.Pairs.{pair_seen}
 use Rattle.spe_slow.specs.Answers.{rows_answer, table_answer, rows_refusal, answered_with}
 use Rattle.spe_slow.specs.Refused.{rowless_refusal}
 use Rattle.spe_slow.specs.Rows.{shown_values}
 use Rattle.spe_slow.proofs.AnswersLemmas.{meaning_unnamed, meaning_named, refused_by_table, left_to_rows}
-use Rattle.spe_catalog.specs.Leaf.{Has, IsLeafFor, IsWayCause}
 use Rattle.spe_exec.specs.declared.select.Shown.{Shown}
-use Rattle.spe_exec.specs.declared.select.Shown.TheVariants.{Damage}
+use Rattle.spe_exec.specs.declared.select.Shown.TheVariants.{Damage, Rows}
 use Rattle.spe_exec.specs.Finding.{entry_named}
 use Rattle.spe_exec.specs.Rows.{values_in, IsDamaged, Shows}
-use Rattle.spe_exec.specs.Run.{stored_chosen, AreRowsOf, HoldsRows, ShowsStored, NamesLeaf, NamesStored, HasRowsCause, StandsWith}
+use Rattle.spe_exec.specs.Run.{stored_chosen, AreRowsOf, HoldsRows, HasRowsCause, StandsWith}
 use Rattle.spe_exec.proofs.RowsLemmas.{row_is}
-use Rattle.spe_exec.proofs.ChosenLemmas.{chosen_rows, same_count, chosen_has}
+use Rattle.spe_exec.proofs.ChosenLemmas.{chosen_rows, same_count}
 use Rattle.spe_exec.proofs.TableLemmas.{FindsTable, table_found}
 
 -- a row that is none of the table is in no list of its rows
-pub no_row : (table : TableDef) (stored : List (ℤ × List ℕ)) (rows : List Row) (row : ℤ × List ℕ) → AreTableRows table stored rows → Has stored row → values_in table row ≡ None → ⊥
-no_row table [] rows row are h none = absurd h
-no_row table (x ∷ xs) [] row are h none = absurd are
-no_row table (x ∷ xs) (r ∷ rs) row are (inl same) none =
-    let e : Some r.1 ≡ None = row_is table x r are.0 ∙ (ap (values_in table) same ∙ none) in absurd cc
-no_row table (x ∷ xs) (r ∷ rs) row are (inr there) none = no_row table xs rs row are.1 there none
+no_row : (table : TableDef) (stored : List Pair) (rows : List Row) (row : Pair) → AreTableRows table (map pair_seen stored) rows → Contains stored row → values_in table (pair_seen row) ≡ None → ⊥
+no_row table [] rows row are (k, lt, is) none = omega (arith, lt)
+no_row table (x ∷ xs) [] row are has none = absurd are
+no_row table (x ∷ xs) (r ∷ rs) row are (zero, lt, is) none =
+    let e : Some r.1 ≡ None = row_is table (pair_seen x) r are.0 ∙ (ap (λ (p : Pair). values_in table (pair_seen p)) is ∙ none) in absurd cc
+no_row table (x ∷ xs) (r ∷ rs) row are (suc k, lt, is) none = no_row table xs rs row are.1 (k, omega (arith, lt), is) none
 
--- damage is found only where some row is none of the table
-pub damage_not : (table : TableDef) (all : Bool) (names : List Named) (stored : List (ℤ × List ℕ)) (rowid : ℤ) (fault : TreeFault) → IsDamaged table stored rowid
-    → ShowsStored table all names stored (Err fault)
-damage_not table all names stored rowid fault bad rows are = absurd (no_row table stored rows bad.row are bad.inside bad.none)
+pub shown_damage : (table : TableDef) (all : Bool) (names : List Named) (stored : List Pair) (shown : Shown) (leaf : ℕ) → shown ≡ Damage leaf → Shows table all names stored shown
+    → IsDamaged table stored leaf
+shown_damage table all names stored shown leaf e h = subst (λ (s : Shown). Shows table all names stored s) e h
 
-pub shown_damage : (table : TableDef) (all : Bool) (names : List Named) (stored : List (ℤ × List ℕ)) (shown : Shown) (rowid : ℤ) → shown ≡ Damage rowid → Shows table all names stored shown
-    → IsDamaged table stored rowid
-shown_damage table all names stored shown rowid e h = subst (λ (s : Shown). Shows table all names stored s) e h
-
-pub damage_named : {P : Type 0} (g : Ghosts P) (early late : P) (entry : Entry) (stored : List (ℤ × List ℕ)) (rowid raw : ℤ) (X : Type 0) (fault : TreeFault) → raw ≡ rowid
-    → IsDamaged entry.table stored rowid → NamesLeaf g early late entry.root raw fault → NamesStored {X = X} g early late entry stored (Err fault)
-damage_named g early late entry stored rowid raw X (Space f) e bad named = tt
-damage_named g early late entry stored rowid raw X (Corrupt at) e bad named =
-    (rowid, bad, subst (λ (n : ℤ). NamesLeaf g early late entry.root n (Corrupt at)) e named)
+pub shown_rows : (table : TableDef) (all : Bool) (names : List Named) (stored : List Pair) (shown : Shown) (rows : Vec (List Value) Global) → shown ≡ Rows rows → Shows table all names stored shown
+    → Shows table all names stored (Rows rows)
+shown_rows table all names stored shown rows e h = subst (λ (s : Shown). Shows table all names stored s) e h
 
 -- a fault of the walk, as the cause of a statement's
 pub walk_cause : (X Y : Type 0) (usable : ℕ) (pages : Paging) (entry : Entry) (fault : TreeFault) → HasCause {X = X} usable pages entry.root 20 (Err fault)
@@ -72,50 +72,42 @@ pub walk_cause : (X Y : Type 0) (usable : ℕ) (pages : Paging) (entry : Entry) 
 walk_cause X Y usable pages entry (Space f) h = tt
 walk_cause X Y usable pages entry (Corrupt at) h = inr h
 
-leaf_cause : (X : Type 0) (usable : ℕ) (pages : Paging) (entry : Entry) (stored : List (ℤ × List ℕ)) (conds : List Cond) (rowid : ℤ) (at : ℕ)
-    → ((height : ℕ) → IsTableTree usable pages height entry.root → stored ≡ stored_chosen conds (tree_rows usable pages height entry.root))
-    → IsDamaged entry.table stored rowid → IsLeafFor usable pages entry.root (rank rowid) 20 at ⊎ IsWayCause usable pages entry.root 20 at
-    → HasRowsCause {X = X} usable pages entry (Err (Corrupt at))
-leaf_cause X usable pages entry stored conds rowid at are bad (inl leaf) = inl (record {
-  depth = leaf.depth;
-  below = leaf.below;
-  bad = λ height tree. record {
-    row = bad.row;
-    inside = leaf.rows height 0 18446744073709551616 tree.1 bad.row
-        (chosen_has conds (tree_rows usable pages height entry.root) bad.row (subst (λ (xs : List (ℤ × List ℕ)). Has xs bad.row) (are height tree) bad.inside)) (ap rank bad.rowid_is);
-    none = bad.none;
-  };
-})
-leaf_cause X usable pages entry stored conds rowid at are bad (inr (inl faulty)) = inr (inl faulty)
-leaf_cause X usable pages entry stored conds rowid at are bad (inr (inr below)) = inr (inr (inr below))
+-- the leaf of a row that is none of the table
+pub row_cause : (X : Type 0) (usable : ℕ) (pages : Paging) (entry : Entry) (stored slice : List Pair) (leaf : ℕ) → slice ≡ stored
+    → ((row : Pair) → Contains stored row → IsRead usable pages 20 entry.root row) → IsDamaged entry.table slice leaf → HasRowsCause {X = X} usable pages entry (Err (Corrupt leaf))
+row_cause X usable pages entry stored slice leaf e read bad =
+    inl (record { row = bad.row; leaf_is = bad.leaf_is; read = read bad.row (subst (λ (xs : List Pair). Contains xs bad.row) e bad.inside); none = bad.none })
 
-pub stored_cause : {P : Type 0} (g : Ghosts P) (early mid late : P) (entry : Entry) (stored slice : List (ℤ × List ℕ)) (conds : List Cond) (X : Type 0) (result : Result X TreeFault) → Reads g early mid
-    → slice ≡ stored → NamesStored g mid late entry slice result → (pages : Paging) → Agrees pages (g.seen late)
-    → ((height : ℕ) → IsTableTree (g.used early) (sight g early pages) height entry.root → stored ≡ stored_chosen conds (tree_rows (g.used early) (sight g early pages) height entry.root))
-    → HasRowsCause (g.used early) (sight g early pages) entry result
-stored_cause g early mid late entry stored slice conds X (Ok x) reads e named pages agrees are = tt
-stored_cause g early mid late entry stored slice conds X (Err (Space f)) reads e named pages agrees are = tt
-stored_cause g early mid late entry stored slice conds X (Err (Corrupt at)) reads e (rowid, bad, leaf) pages agrees are =
-    leaf_cause X (g.used early) (sight g early pages) entry stored conds rowid at are
-    (subst (λ (xs : List (ℤ × List ℕ)). IsDamaged entry.table xs rowid) e bad) (rw (reads.used, reads.laid) at (leaf pages agrees))
+-- the stored rows that are chosen are those of the chosen rows
+chosen_are : (usable : ℕ) (pages : Paging) (entry : Entry) (conds : List Cond) (stored slice : List Pair) (rows : List Row) → slice ≡ stored → (of : AreRowsOf usable pages entry rows)
+    → ((height : ℕ) → IsTableTree usable pages height entry.root → map pair_seen stored ≡ stored_chosen conds (tree_rows usable pages height entry.root))
+    → AreTableRows entry.table (map pair_seen slice) (chosen conds rows)
+chosen_are usable pages entry conds stored slice rows e of are =
+    subst (λ (xs : List (ℤ × List ℕ)). AreTableRows entry.table xs (chosen conds rows)) (sym (ap (λ (xs : List Pair). map pair_seen xs) e ∙ are of.height of.tree))
+    (chosen_rows entry.table conds (tree_rows usable pages of.height entry.root) rows of.rows_are)
+
+-- damage is found only where some row is none of the table
+pub damage_not : (usable : ℕ) (pages : Paging) (entry : Entry) (conds : List Cond) (stored slice : List Pair) (rows : List Row) (leaf : ℕ) → slice ≡ stored → AreRowsOf usable pages entry rows
+    → ((height : ℕ) → IsTableTree usable pages height entry.root → map pair_seen stored ≡ stored_chosen conds (tree_rows usable pages height entry.root))
+    → IsDamaged entry.table slice leaf → ⊥
+damage_not usable pages entry conds stored slice rows leaf e of are bad =
+    no_row entry.table slice (chosen conds rows) bad.row (chosen_are usable pages entry conds stored slice rows e of are) bad.inside bad.none
 
 -- what is shown of the chosen rows
-pub select_shown : (usable : ℕ) (pages : Paging) (entry : Entry) (all : Bool) (columns : List (List ℕ)) (names : List Named) (conds : List Cond) (stored slice : List (ℤ × List ℕ)) (rows : List Row)
-    (result : Result Reply TreeFault) → names ≡ map (meant_by entry.table) columns → slice ≡ stored → ShowsStored entry.table all names slice result → AreRowsOf usable pages entry rows
-    → ((height : ℕ) → IsTableTree usable pages height entry.root → stored ≡ stored_chosen conds (tree_rows usable pages height entry.root))
-    → Answers (λ r. r) (replies.Rows (map (selected entry.table all columns) (chosen conds rows))) result
-select_shown usable pages entry all columns names conds stored slice rows result n e shown of are =
-    let h : AreTableRows entry.table slice (chosen conds rows) =
-    subst (λ (xs : List (ℤ × List ℕ)). AreTableRows entry.table xs (chosen conds rows)) (sym (e ∙ are of.height of.tree))
-    (chosen_rows entry.table conds (tree_rows usable pages of.height entry.root) rows of.rows_are) in
-    subst (λ (ns : List Named). Answers (λ r. r) (replies.Rows (map (shown_values all ns) (chosen conds rows))) result) n (shown (chosen conds rows) h)
+pub select_shown : (usable : ℕ) (pages : Paging) (entry : Entry) (all : Bool) (columns : List (List ℕ)) (names slice_names : List Named) (conds : List Cond) (stored slice : List Pair) (rows : List Row)
+    (shown : Vec (List Value) Global) → names ≡ map (meant_by entry.table) columns → slice_names ≡ names → slice ≡ stored → Shows entry.table all slice_names slice (Rows shown) → AreRowsOf usable pages entry rows
+    → ((height : ℕ) → IsTableTree usable pages height entry.root → map pair_seen stored ≡ stored_chosen conds (tree_rows usable pages height entry.root))
+    → replies.Rows shown.items ≡ replies.Rows (map (selected entry.table all columns) (chosen conds rows))
+select_shown usable pages entry all columns names slice_names conds stored slice rows shown n s e shows of are =
+    ap replies.Rows (subst (λ (ns : List Named). shown.items ≡ map (shown_values all ns) (chosen conds rows)) (s ∙ n)
+    (shows (chosen conds rows) (chosen_are usable pages entry conds stored slice rows e of are)))
 
-pub count_shown : (usable : ℕ) (pages : Paging) (entry : Entry) (conds : List Cond) (stored : List (ℤ × List ℕ)) (rows : List Row) (count : ℕ) → count ≡ length stored → AreRowsOf usable pages entry rows
-    → ((height : ℕ) → IsTableTree usable pages height entry.root → stored ≡ stored_chosen conds (tree_rows usable pages height entry.root))
+pub count_shown : (usable : ℕ) (pages : Paging) (entry : Entry) (conds : List Cond) (stored slice : List Pair) (rows : List Row) (count : ℕ) → count ≡ length slice → slice ≡ stored → AreRowsOf usable pages entry rows
+    → ((height : ℕ) → IsTableTree usable pages height entry.root → map pair_seen stored ≡ stored_chosen conds (tree_rows usable pages height entry.root))
     → replies.Count count ≡ replies.Count (length (chosen conds rows))
-count_shown usable pages entry conds stored rows count c of are =
-    ap replies.Count (c ∙ ap length (are of.height of.tree)
-    ∙ same_count entry.table (stored_chosen conds (tree_rows usable pages of.height entry.root)) (chosen conds rows) (chosen_rows entry.table conds (tree_rows usable pages of.height entry.root) rows of.rows_are))
+count_shown usable pages entry conds stored slice rows count c e of are =
+    ap replies.Count (c ∙ (sym (length-map slice pair_seen)
+    ∙ same_count entry.table (map pair_seen slice) (chosen conds rows) (chosen_are usable pages entry conds stored slice rows e of are)))
 
 pub open_if : (table : TableDef) (s : Statement) → rowless_refusal table s ≡ None → is_some table.closed ≡ false
 open_if table s e = go (is_some table.closed) refl e

@@ -1,6 +1,7 @@
 -- The rows of a table as their payloads say them.
 use Rattle.std.proofs.Common.{◌≡◌, inl, inr, ℕ, zero, suc, ℤ, ◌+◌, ◌-◌, ◌<◌, ◌≤◌, Bool, true, false, ◌==◌, nat_le, List, [], ◌∷◌, ◌++◌, length, map, Option, Some, None, refl, sym, ap, ◌∙◌, arith, append_assoc, replicate, slice_set, if◌then◌else◌, get_or, take, drop}
 use Rattle.std.proofs.lemmas.List.{take_all}
+use Rattle.std.proofs.lemmas.List.Elements.{Contains-append_right}
 use Rattle.std.specs.List.{enumerate_from}
 use Rattle.std.specs.Option.{option_map}
 use Rattle.spe_model.specs.declared.value.Value.{Value}
@@ -11,12 +12,9 @@ use Rattle.spe_model.specs.Alias.{is_alias, with_alias}
 use Rattle.spe_model.specs.Database.{Row, padded}
 use Rattle.spe_model.specs.Standing.{IsTableRow, AreTableRows}
 use Rattle.spe_slow.specs.Rows.{shown_values}
-use Rattle.spe_catalog.specs.Leaf.{Has}
+use Rattle.spe_search.specs.declared.pairs.Pair.{Pair}
+use Rattle.spe_search.specs.Pairs.{pair_seen}
 use Rattle.spe_exec.specs.Rows.{values_in, IsDamaged, IsLeft, IsShowing}
-
-pub has_middle : (xs : List (ℤ × List ℕ)) (row : ℤ × List ℕ) (ys : List (ℤ × List ℕ)) → Has (xs ++ row ∷ ys) row
-has_middle [] row ys = inl refl
-has_middle (x ∷ xs) row ys = inr (has_middle xs row ys)
 
 pub front_is : {X : Type 0} (left : List X) (first : X) (n : ℕ) → 1 ≤ length left → first ≡ get_or left 0 first → n ≡ length left - 1
     → left ≡ first ∷ take n (drop 1 left)
@@ -101,7 +99,7 @@ row_same table stored (n, held) values is e =
     let w : held ≡ values = cc in
     rw (row_number table stored (n, held) is, w) refl
 
-pub show_start : (table : TableDef) (all : Bool) (names : List Named) (stored : List (ℤ × List ℕ)) → IsShowing table all names stored stored []
+pub show_start : (table : TableDef) (all : Bool) (names : List Named) (stored : List Pair) → IsShowing table all names stored stored []
 show_start table all names stored = record { done = []; split = refl; shown = λ rows are. record { others = rows; others_are = are; made_is = refl } }
 
 left_more : (table : TableDef) (all : Bool) (names : List Named) (x : ℤ × List ℕ) (rest : List (ℤ × List ℕ)) (values made_one : List Value) (rows : List Row) (made : List (List Value))
@@ -119,26 +117,26 @@ left_more table all names x rest values one rows made e left = go left.others le
     }
 
 -- one more row
-pub show_more : (table : TableDef) (all : Bool) (names : List Named) (stored left rest : List (ℤ × List ℕ)) (x : ℤ × List ℕ) (values : List Value) (made new : List (List Value))
-    → left ≡ x ∷ rest → values_in table x ≡ Some values → new ≡ made ++ shown_values all names (x.0, values) ∷ [] → IsShowing table all names stored left made
+pub show_more : (table : TableDef) (all : Bool) (names : List Named) (stored left rest : List Pair) (x : Pair) (values : List Value) (made new : List (List Value))
+    → left ≡ x ∷ rest → values_in table (pair_seen x) ≡ Some values → new ≡ made ++ shown_values all names (x.rowid, values) ∷ [] → IsShowing table all names stored left made
     → IsShowing table all names stored rest new
 show_more table all names stored left rest x values made new l e n is = rw n (record {
   done = is.done ++ x ∷ [];
   split = is.split ∙ (ap (λ ys. is.done ++ ys) l ∙ sym (append_assoc is.done (x ∷ []) rest));
-  shown = λ rows are. left_more table all names x rest values values rows made e (rw l at (is.shown rows are));
+  shown = λ rows are. left_more table all names (pair_seen x) (map pair_seen rest) values values rows made e (rw l at (is.shown rows are));
 })
 
-pub show_bad : (table : TableDef) (all : Bool) (names : List Named) (stored left rest : List (ℤ × List ℕ)) (x : ℤ × List ℕ) (rowid : ℤ) (made : List (List Value))
-    → left ≡ x ∷ rest → values_in table x ≡ None → rowid ≡ x.0 → IsShowing table all names stored left made → IsDamaged table stored rowid
-show_bad table all names stored left rest x rowid made l e n is = record {
+pub show_bad : (table : TableDef) (all : Bool) (names : List Named) (stored left rest : List Pair) (x : Pair) (made : List (List Value))
+    → left ≡ x ∷ rest → values_in table (pair_seen x) ≡ None → IsShowing table all names stored left made → IsDamaged table stored x.leaf
+show_bad table all names stored left rest x made l e is = record {
   row = x;
-  inside = rw (is.split, l) (has_middle is.done x rest);
-  rowid_is = sym n;
+  inside = rw (is.split, l) (Contains-append_right is.done (x ∷ rest) x (0, omega arith, refl));
+  leaf_is = refl;
   none = e;
 }
 
-pub show_end : (table : TableDef) (all : Bool) (names : List Named) (stored left : List (ℤ × List ℕ)) (made : List (List Value)) → length left < 1
-    → IsShowing table all names stored left made → (rows : List Row) → AreTableRows table stored rows → made ≡ map (shown_values all names) rows
+pub show_end : (table : TableDef) (all : Bool) (names : List Named) (stored left : List Pair) (made : List (List Value)) → length left < 1
+    → IsShowing table all names stored left made → (rows : List Row) → AreTableRows table (map pair_seen stored) rows → made ≡ map (shown_values all names) rows
 show_end table all names stored [] made none is rows are = go (is.shown rows are)
   where
     go : IsLeft table all names [] rows made → made ≡ map (shown_values all names) rows
@@ -160,13 +158,13 @@ show_missed table all names x e = go (values_in table x) refl e
     go None a e = a
     go (Some v) a e = absurd cc
 
-pub show_found : (table : TableDef) (all : Bool) (names : List Named) (stored left rest : List (ℤ × List ℕ)) (x : ℤ × List ℕ) (one : List Value) (made new : List (List Value))
-    → left ≡ x ∷ rest → shown_of table all names x ≡ Some one → new ≡ made ++ one ∷ [] → IsShowing table all names stored left made
+pub show_found : (table : TableDef) (all : Bool) (names : List Named) (stored left rest : List Pair) (x : Pair) (one : List Value) (made new : List (List Value))
+    → left ≡ x ∷ rest → shown_of table all names (pair_seen x) ≡ Some one → new ≡ made ++ one ∷ [] → IsShowing table all names stored left made
     → IsShowing table all names stored rest new
-show_found table all names stored left rest x one made new l e n is = go (values_in table x) refl e
+show_found table all names stored left rest x one made new l e n is = go (values_in table (pair_seen x)) refl e
   where
-    go : (o : Option (List Value)) → values_in table x ≡ o → option_map (λ values. shown_values all names (x.0, values)) o ≡ Some one → IsShowing table all names stored rest new
+    go : (o : Option (List Value)) → values_in table (pair_seen x) ≡ o → option_map (λ values. shown_values all names (x.rowid, values)) o ≡ Some one → IsShowing table all names stored rest new
     go None a e = absurd cc
     go (Some v) a e =
-        let same : shown_values all names (x.0, v) ≡ one = (let both : Some (shown_values all names (x.0, v)) ≡ Some one = e in cc) in
+        let same : shown_values all names (x.rowid, v) ≡ one = (let both : Some (shown_values all names (x.rowid, v)) ≡ Some one = e in cc) in
         show_more table all names stored left rest x v made new l a (rw same n) is

@@ -21,7 +21,7 @@ abbrev pub FindsTable : (usable : ℕ) (pages : Paging) → Option Entry → Opt
 FindsTable usable pages None named = named ≡ None
 FindsTable usable pages (Some entry) named = (rows : List Row) × (named ≡ Some (entry.table, rows)) × HoldsRows usable pages entry rows
 
-and_both : (a b : Bool) → (a && b) ≡ true → (a ≡ true) × (b ≡ true)
+pub and_both : (a b : Bool) → (a && b) ≡ true → (a ≡ true) × (b ≡ true)
 and_both true b h = (refl, h)
 and_both false b h = absurd (false≢true h)
 
@@ -30,7 +30,7 @@ not_false true h = refl
 not_false false h = absurd (false≢true (sym h))
 
 -- an open table is closed for no reason
-no_reason : (test : Closed → Bool) → is_some (find test reasons) ≡ false → test Definition ≡ false
+pub no_reason : (test : Closed → Bool) → is_some (find test reasons) ≡ false → test Definition ≡ false
 no_reason test h = go (test Reserved) (test Definition) refl refl h
   where
     go : (a b : Bool) → test Reserved ≡ a → test Definition ≡ b → is_some (find test reasons) ≡ false → test Definition ≡ false
@@ -38,11 +38,11 @@ no_reason test h = go (test Reserved) (test Definition) refl refl h
     go true true e f h = absurd (false≢true (sym (rw e at h)))
     go false true e f h = absurd (false≢true (sym (rw (e, f) at h)))
 
-rooted_if : (f : ℕ → Bool) (all : List SchemaRow) (row : SchemaRow) → is_closed_by f all row Definition ≡ false → is_rooted f row.rootpage ≡ true
+pub rooted_if : (f : ℕ → Bool) (all : List SchemaRow) (row : SchemaRow) → is_closed_by f all row Definition ≡ false → is_rooted f row.rootpage ≡ true
 unfolding is_closed_by
 rooted_if f all row h = (and_both (is_declared (declaration_in row)) (is_rooted f row.rootpage) (not_false _ h)).1
 
-not_root : (n : ℕ) → not (n == 0) ≡ true → n ≢ 0
+pub not_root : (n : ℕ) → not (n == 0) ≡ true → n ≢ 0
 not_root n h e = absurd (grind arith)
 
 -- the rows of a table that is open
@@ -70,7 +70,7 @@ held usable pages all row grown rows tree false e are =
     open_rows usable pages all row grown rows tree
     (rooted_if (is_index_page pages) all row (no_reason (is_closed_by (is_index_page pages) all row) e)) are
 
-abbrev part_of : (pages : Paging) (all rows : List SchemaRow) → List Entry
+abbrev pub part_of : (pages : Paging) (all rows : List SchemaRow) → List Entry
 part_of pages all rows = map (entry_of (is_index_page pages) all) (filter is_table_row rows)
 
 entries_find : (usable : ℕ) (pages : Paging) (all : List SchemaRow) (name : List ℕ) (rows : List SchemaRow) (trees : List (Option Tree)) (db : Database)

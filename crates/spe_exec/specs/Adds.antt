@@ -4,10 +4,8 @@ use Rattle.std.specs.List.{Contains}
 use Rattle.spe_model.specs.declared.catalog.Entry.{Entry}
 use Rattle.spe_model.specs.declared.statement.Cond.{Cond}
 use Rattle.spe_model.specs.declared.statement.Statement.{Statement}
-use Rattle.spe_model.specs.declared.table.TableDef.{TableDef}
 use Rattle.spe_model.specs.Database.{Database, Row}
 use Rattle.spe_model.specs.Paging.{Paging, Agrees}
-use Rattle.spe_model.specs.Standing.{AreTableRows}
 use Rattle.spe_model.specs.Statement.{table_name, conds_of}
 use Rattle.spe_model.specs.Tree.{rank, IsTableTree}
 use Rattle.spe_space.specs.Calls.{sight}
@@ -34,10 +32,6 @@ IsNewFor g early late root conds pages = (n : ℕ) → (g.seen late n ≡ g.seen
 abbrev pub AddsChosen : {P : Type 0} (g : Ghosts P) (early late : P) (root : ℕ) (conds : List Cond) → Type 0
 AddsChosen g early late root conds =
     (pages : Paging) → Agrees pages (g.seen late) → (height : ℕ) → IsTableTree (g.used early) (sight g early pages) height root → IsNewFor g early late root conds pages
-
--- where all rows are the table's, no page is given for the first time
-abbrev pub AddsNone : {P : Type 0} (g : Ghosts P) (early late : P) (table : TableDef) (stored : List (ℤ × List ℕ)) → Type 0
-AddsNone g early late table stored = (rows : List Row) → AreTableRows table stored rows → (n : ℕ) → g.seen late n ≡ g.seen early n
 
 abbrev pub AddsOfRows : {P : Type 0} (g : Ghosts P) (early late : P) (entry : Entry) (conds : List Cond) → Type 0
 AddsOfRows g early late entry conds =

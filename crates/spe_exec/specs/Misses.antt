@@ -1,17 +1,16 @@
 -- The pages that a statement that reads asks for and that are none of the space's.
-use Rattle.std.specs.Prelude.{◌≡◌, ◌⊎◌, ℕ, ℤ, ◌<◌, List, Some, Result, IfErr}
+use Rattle.std.specs.Prelude.{◌≡◌, ◌⊎◌, ℕ, ℤ, ◌<◌, List, Some, Result, IfErr, false, is_some}
 use Rattle.std.specs.List.{Contains}
 use Rattle.spe_model.specs.declared.catalog.Entry.{Entry}
 use Rattle.spe_model.specs.declared.statement.Cond.{Cond}
 use Rattle.spe_model.specs.declared.statement.Statement.{Statement}
-use Rattle.spe_model.specs.declared.table.TableDef.{TableDef}
 use Rattle.spe_model.specs.Database.{Database, Row}
 use Rattle.spe_model.specs.Paging.{Paging, Agrees}
-use Rattle.spe_model.specs.Standing.{AreTableRows}
 use Rattle.spe_model.specs.Statement.{table_name, conds_of}
 use Rattle.spe_model.specs.Tree.{rank, IsTableTree}
 use Rattle.spe_space.specs.Calls.{sight}
 use Rattle.spe_space.specs.Found.{OnMissing}
+use Rattle.spe_space.specs.Outcome.{IsInside}
 use Rattle.spe_space.specs.declared.pages.Pages.{Ghosts}
 use Rattle.spe_space.specs.declared.fault.TreeFault.{TreeFault}
 use Rattle.spe_search.specs.Range.{touched_pages, IsOverflowBetween}
@@ -38,22 +37,24 @@ abbrev pub MissesChosen : {P X : Type 0} (g : Ghosts P) (early late : P) (root :
 MissesChosen g early late root conds result =
     (pages : Paging) → Agrees pages (g.seen late) → (height : ℕ) → IsTableTree (g.used early) (sight g early pages) height root → AsksFor g early root conds result pages
 
--- where all rows are the table's, no page is asked for
-abbrev pub MissesNone : {X : Type 0} → TableDef → List (ℤ × List ℕ) → Result X TreeFault → Type 0
-MissesNone table stored result = (rows : List Row) → AreTableRows table stored rows → IfErr result (OnMissing (λ at. ⊥))
-
 abbrev pub MissesOfRows : {P X : Type 0} (g : Ghosts P) (early late : P) (entry : Entry) (conds : List Cond) (result : Result X TreeFault) → Type 0
 MissesOfRows g early late entry conds result =
     (pages : Paging) → Agrees pages (g.seen late) → (rows : List Row) → AreRowsOf (g.used early) (sight g early pages) entry rows → AsksFor g early entry.root conds result pages
 
+-- a page of the tree of an open table
+abbrev pub IsAskedOpen : (usable : ℕ) (pages : Paging) (entry : Entry) (conds : List Cond) (at : ℕ) → Type 0
+IsAskedOpen usable pages entry conds at = (is_some entry.table.closed ≡ false) × IsAskedFor usable pages entry.root conds at
+
 abbrev pub MissesOfTable : {P X : Type 0} (g : Ghosts P) (early late : P) (entry : Entry) (conds : List Cond) (result : Result X TreeFault) → Type 0
 MissesOfTable g early late entry conds result =
-    (pages : Paging) → Agrees pages (g.seen late) → (rows : List Row) → HoldsRows (g.used early) (sight g early pages) entry rows → AsksFor g early entry.root conds result pages
+    (pages : Paging) → Agrees pages (g.seen late) → (rows : List Row) → HoldsRows (g.used early) (sight g early pages) entry rows
+    → IfErr result (OnMissing (IsAskedOpen (g.used early) (sight g early pages) entry conds))
 
--- a page of the tree of the table that a statement names
+-- a page of the tree of the open table that a statement names
 pub record IsAskedOf (usable : ℕ) (pages : Paging) (catalog : List Entry) (s : Statement) (at : ℕ) : Type 0 where
   pub entry : Entry
   pub named : entry_named (table_name s) catalog ≡ Some entry
+  pub is_open : is_some entry.table.closed ≡ false
   pub page : IsAskedFor usable pages entry.root (conds_of s) at
 
 -- where the pages stand for a database, a page that is asked for and is none of the space's is one that the statement's
@@ -62,3 +63,9 @@ abbrev pub MissesOfStatement : {P X : Type 0} (g : Ghosts P) (early late : P) (c
 MissesOfStatement g early late catalog s result =
     (pages : Paging) → Agrees pages (g.seen late) → (count : ℕ) (db : Database) → StandsWith (g.used early) count (sight g early pages) catalog db
     → IfErr result (OnMissing (IsAskedOf (g.used early) (sight g early pages) catalog s))
+
+-- there it is one of the pages that stand
+abbrev pub MissesStatement : {P X : Type 0} (g : Ghosts P) (early late : P) (catalog : List Entry) (result : Result X TreeFault) → Type 0
+MissesStatement g early late catalog result =
+    (pages : Paging) → Agrees pages (g.seen late) → (count : ℕ) (db : Database) → StandsWith (g.used early) count (sight g early pages) catalog db
+    → IfErr result (OnMissing (IsInside count))

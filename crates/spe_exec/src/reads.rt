@@ -1,6 +1,6 @@
 //! Statements that read.
 
-ghost use Rattle.std.specs.Prelude.{◌≡◌, ℕ, None, Err, IfOk, false, length, map};
+ghost use Rattle.std.specs.Prelude.{◌≡◌, None, IfOk, false, length, map};
 ghost use Rattle.spe_model.specs.declared.reply.Reply.TheVariants as replies;
 ghost use Rattle.spe_model.specs.Conditions.{chosen};
 ghost use Rattle.spe_model.specs.Meaning.{reply_to};
@@ -8,15 +8,13 @@ ghost use Rattle.spe_model.specs.Naming.{meant_by};
 ghost use Rattle.spe_model.specs.Rows.{selected};
 ghost use Rattle.spe_model.specs.Statement.{is_write, conds_of};
 ghost use Rattle.spe_space.specs.Calls.{Reads, RefusesTree};
-ghost use Rattle.spe_search.specs.Pairs.{pair_seen};
-ghost use Rattle.spe_exec.specs.Run.{AnswersRows, ShowsStored, AnswersTable, NamesLeaf, NamesStored, NamesRows, NamesTable, GivesMeaning};
-ghost use Rattle.spe_exec.specs.Adds.{AddsNone, AddsOfRows, AddsOfTable, AddsOfStatement};
-ghost use Rattle.spe_exec.specs.Misses.{MissesNone, MissesOfRows, MissesOfTable, MissesOfStatement};
+ghost use Rattle.spe_exec.specs.Run.{AnswersRows, AnswersTable, NamesRows, NamesTable, GivesMeaning};
+ghost use Rattle.spe_exec.specs.Adds.{AddsOfRows, AddsOfTable, AddsOfStatement};
+ghost use Rattle.spe_exec.specs.Misses.{MissesOfRows, MissesOfTable, MissesOfStatement, MissesStatement};
 
 use crate::chosen::chosen_pairs;
 use crate::finding::{entry_named, table_name};
 use crate::select::{Shown, show};
-use spe_catalog::leaf;
 use spe_model::{
     Catalog, Cond, Entry, Named, Refusal, Reply, Rows, Statement, TableDef, Text, TxKind,
 };
@@ -33,42 +31,6 @@ fn meant_by_all(alloc: Global, table: &TableDef, names: &[Text]) -> Result<Vec<N
         .iter()
         .map(|name| meant_by(table, name))
         .collect(alloc)
-}
-
-// Corrupt of the leaf of a row.
-fn damage<S: Pages>(alloc: Global, space: &mut S, root: u32, rowid: i64) -> TreeFault
-    requires { S.Pages.refusal space.old ≡ None }
-    ensures named { NamesLeaf S.Pages space.old space.new root rowid result }
-    ensures kept { Reads S.Pages space.old space.new }
-    ensures refusal { RefusesTree {X = ℕ} S.Pages space.old space.new (Err result) }
-{
-    match leaf(alloc, space, root, rowid) {
-        Ok(page) => TreeFault::Corrupt { page },
-        Err(fault) => fault,
-    }
-}
-
-// What a SELECT shows of stored rows.
-fn show_pairs<S: Pages>(
-    alloc: Global,
-    space: &mut S,
-    entry: &Entry,
-    all: bool,
-    names: &[Named],
-    pairs: &[Pair],
-) -> Result<Reply, TreeFault>
-    requires { S.Pages.refusal space.old ≡ None }
-    ensures shown { ShowsStored entry.now.table all names.now (map pair_seen pairs.now) result }
-    ensures damage { NamesStored S.Pages space.old space.new entry.now (map pair_seen pairs.now) result }
-    ensures adds { AddsNone S.Pages space.old space.new entry.now.table (map pair_seen pairs.now) }
-    ensures page_out { MissesNone entry.now.table (map pair_seen pairs.now) result }
-    ensures kept { Reads S.Pages space.old space.new }
-    ensures refusal { RefusesTree S.Pages space.old space.new result }
-{
-    match show(alloc, &entry.table, all, names, pairs)? {
-        Shown::Rows(rows) => Ok(Reply::Rows(Rows::new(rows))),
-        Shown::Damage(rowid) => Err(damage(alloc, space, entry.root, rowid)),
-    }
 }
 
 // What a SELECT answers on an open table.
@@ -89,10 +51,21 @@ fn select<S: Pages>(
     ensures refusal { RefusesTree S.Pages space.old space.new result }
 {
     let names = meant_by_all(alloc, &entry.table, columns)?;
-    match chosen_pairs(alloc, space, entry.root, conds) {
-        Ok(pairs) => show_pairs(alloc, space, entry, all, names.as_slice(), pairs.as_slice()),
-        Err(fault) => Err(fault),
+    let pairs = match chosen_pairs(alloc, space, entry.root, conds) {
+        Ok(pairs) => pairs,
+        Err(fault) => return Err(fault),
+    };
+    match show(alloc, &entry.table, all, names.as_slice(), pairs.as_slice())? {
+        Shown::Rows(rows) => Ok(Reply::Rows(Rows::new(rows))),
+        Shown::Damage(leaf) => Err(TreeFault::Corrupt { page: leaf }),
     }
+}
+
+// How many rows these are.
+fn count_of(pairs: &[Pair]) -> u64
+    ensures { result ≡ length pairs.now }
+{
+    pairs.len() as u64
 }
 
 // What a COUNT answers on an open table.
@@ -111,7 +84,7 @@ fn count<S: Pages>(
     ensures refusal { RefusesTree S.Pages space.old space.new result }
 {
     match chosen_pairs(alloc, space, entry.root, conds) {
-        Ok(pairs) => Ok(Reply::Count(pairs.as_slice().len() as u64)),
+        Ok(pairs) => Ok(Reply::Count(count_of(pairs.as_slice()))),
         Err(fault) => Err(fault),
     }
 }
@@ -175,14 +148,8 @@ fn answer<S: Pages>(
     }
 }
 
-/// Carries out a statement that reads, a SELECT or a COUNT, on the database for which the pages of a
-/// space stand, whose catalog is given.
-///
-/// Only the pages of the table's tree are got that the conditions touch, and the overflow pages of the
-/// rows. The kind of the transaction makes no difference to such a statement. Corrupt and PageOut are as
-/// of `range`; Corrupt may also name the leaf of a row that a SELECT would show and whose record is
-/// damaged or has fields for which the table has no columns. To find that leaf one page is got a level.
-pub fn run<S: Pages>(
+// What `run` answers.
+fn reply<S: Pages>(
     alloc: Global,
     space: &mut S,
     catalog: &Catalog,
@@ -202,4 +169,31 @@ pub fn run<S: Pages>(
         Some(entry) => answer(alloc, space, entry, statement),
         None => Ok(Reply::Refused(Refusal::NoTable)),
     }
+}
+
+/// Carries out a statement that reads, a SELECT or a COUNT, on the database for which the pages of a
+/// space stand, whose catalog is given.
+///
+/// Only the pages of the table's tree are got that the conditions touch, and the overflow pages of the
+/// rows. The kind of the transaction makes no difference to such a statement. Corrupt and PageOut are as
+/// of `range`; Corrupt may also name the leaf that a row was read from which a SELECT would show and
+/// whose record is damaged or has fields for which the table has no columns.
+pub fn run<S: Pages>(
+    alloc: Global,
+    space: &mut S,
+    catalog: &Catalog,
+    statement: &Statement,
+    kind: TxKind,
+) -> Result<Reply, TreeFault>
+    requires reads { is_write statement.now ≡ false }
+    requires refusal { S.Pages.refusal space.old ≡ None }
+    ensures meaning { GivesMeaning S.Pages space.old space.new catalog.now kind statement.now result }
+    ensures damage { NamesTable S.Pages space.old space.new catalog.now statement.now result }
+    ensures adds { AddsOfStatement S.Pages space.old space.new catalog.now statement.now }
+    ensures page_out { MissesOfStatement S.Pages space.old space.new catalog.now statement.now result }
+    ensures inside { MissesStatement S.Pages space.old space.new catalog.now result }
+    ensures kept { Reads S.Pages space.old space.new }
+    ensures refusal { RefusesTree S.Pages space.old space.new result }
+{
+    reply(alloc, space, catalog, statement, kind)
 }

@@ -1,6 +1,6 @@
 //! What a SELECT shows of stored rows.
 
-ghost use Rattle.std.specs.Prelude.{◌≡◌, IfOk, map};
+ghost use Rattle.std.specs.Prelude.{◌≡◌, IfOk};
 ghost use Rattle.std.specs.Option.{option_map};
 ghost use Rattle.spe_slow.specs.Rows.{shown_values};
 ghost use Rattle.spe_search.specs.Pairs.{pair_seen};
@@ -18,9 +18,8 @@ use std::alloc::{AllocError, Global};
 pub enum Shown {
     /// Of each row, the values that were asked for.
     Rows(Vec<Values>),
-    /// The rowid of the first row whose record is damaged, or has more fields than the table has
-    /// columns.
-    Damage(i64),
+    /// The leaf of the first row whose record is damaged, or has more fields than the table has columns.
+    Damage(u32),
 }
 
 // What is shown of a row.
@@ -40,9 +39,9 @@ fn show_row(
 }
 
 fn damage_at(pair: &Pair) -> Shown
-    ensures { result ≡ Damage pair.now.rowid }
+    ensures { result ≡ Damage pair.now.leaf }
 {
-    Shown::Damage(pair.rowid)
+    Shown::Damage(pair.leaf)
 }
 
 /// What is shown of these rows: all values, or those that are named.
@@ -53,7 +52,7 @@ pub fn show(
     names: &[Named],
     pairs: &[Pair],
 ) -> Result<Shown, AllocError>
-    ensures { IfOk result (Shows table.now all names.now (map pair_seen pairs.now)) }
+    ensures { IfOk result (Shows table.now all names.now pairs.now) }
 {
     let mut shown = Vec::new(alloc);
     let mut left = pairs;

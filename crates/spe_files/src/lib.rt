@@ -5,10 +5,14 @@
 #![tactic(auto)]
 
 mod file_disk;
+mod file_fault;
 mod file_scripts;
 mod open_files;
 mod out_sink;
+mod stock_journal;
 
 pub use file_disk::FileDisk;
+pub use file_fault::FileFault;
 pub use file_scripts::FileScripts;
 pub use out_sink::OutSink;
+pub use stock_journal::is_cold_journal;

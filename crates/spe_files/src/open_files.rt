@@ -3,6 +3,8 @@
 ghost use Rattle.std.specs.Prelude.{◌≤◌, length, IfOk};
 ghost use Rattle.spe_model.specs.Content.{IsFile};
 
+use crate::file_fault::FileFault;
+use crate::stock_journal::{FRONT_BYTES, is_cold_journal};
 use spe_model::FileNo;
 use std::alloc::{AllocError, Global};
 use std::fs::{File, OpenOptions};
@@ -39,17 +41,29 @@ impl<'a, R: Files<File = File>> OpenFiles<'a, R> {
         }
     }
 
-    /// Opens the database file, and says whether there is one. A plain file in the place of the
-    /// folder of journals is a journal of another program, which is not read.
-    pub fn attach(&mut self, name: &str) -> io::Result<bool> {
+    /// Opens the database file, and says whether there is one. A file in the place of the folder of
+    /// journals is a journal of another program, which is passed over where it is cold.
+    pub fn attach(&mut self, name: &str) -> Result<bool, FileFault> {
         self.name = String::from_str(self.alloc, name)?;
-        if let Some(about) = self.folder()? {
-            if !about.is_dir() {
-                return Err(io::Error::from(io::ErrorKind::NotADirectory));
-            }
+        if self.has_stock_journal()? {
+            return Err(FileFault::StockJournal);
         }
-        self.database = open(self.rt, name)?;
-        Ok(self.database.is_some())
+        let Some(file) = open(self.rt, name)? else {
+            return Ok(false);
+        };
+        if !file.metadata()?.is_file() {
+            return Err(FileFault::NotPlain);
+        }
+        self.database = Some(file);
+        Ok(true)
+    }
+
+    /// The path that a fault is of: that of the journal of another program, or else the database's.
+    pub fn path(&self, fault: FileFault) -> Result<String, AllocError> {
+        match fault {
+            FileFault::StockJournal => self.folder_path(),
+            _ => String::from_str(self.alloc, self.name.as_str()),
+        }
     }
 
     /// The length of a file in bytes, or `None` where it is absent.
@@ -110,9 +124,7 @@ impl<'a, R: Files<File = File>> OpenFiles<'a, R> {
         ensures { IfOk result (λ n. n ≤ 16) }
     {
         if self.folder()?.is_none() {
-            let name = self.name.as_str();
-            let path = format!(in self.alloc; "{name}-journal")?;
-            fs::create_dir(self.rt, path.as_str())?;
+            fs::create_dir(self.rt, self.folder_path()?.as_str())?;
         }
         let mut made = 0;
         for number in 0..16 {
@@ -125,9 +137,33 @@ impl<'a, R: Files<File = File>> OpenFiles<'a, R> {
 
     // What stands in the place of the folder of journals.
     fn folder(&self) -> io::Result<Option<fs::Metadata>> {
+        there(fs::metadata(self.rt, self.folder_path()?.as_str()))
+    }
+
+    // Whether a journal of another program, which is not known to be cold, stands in the place of the
+    // folder.
+    fn has_stock_journal(&self) -> io::Result<bool> {
+        match self.folder()? {
+            None => Ok(false),
+            Some(about) if about.is_dir() => Ok(false),
+            Some(about) if about.is_file() => Ok(!self.is_stock_journal_cold()?),
+            Some(_) => Ok(true),
+        }
+    }
+
+    // Whether the journal of another program is cold; one that cannot be read is not known to be.
+    fn is_stock_journal_cold(&self) -> Result<bool, AllocError> {
+        let path = self.folder_path()?;
+        let mut front = [0; FRONT_BYTES];
+        match read_front(self.rt, path.as_str(), &mut front) {
+            Ok(count) => Ok(is_cold_journal(&front[..count])),
+            Err(_) => Ok(false),
+        }
+    }
+
+    fn folder_path(&self) -> Result<String, AllocError> {
         let name = self.name.as_str();
-        let path = format!(in self.alloc; "{name}-journal")?;
-        there(fs::metadata(self.rt, path.as_str()))
+        format!(in self.alloc; "{name}-journal")
     }
 
     fn journal_path(&self, number: u8) -> Result<String, AllocError> {
@@ -185,6 +221,13 @@ fn open<R: Files<File = File>>(rt: &R, path: &str) -> io::Result<Option<File>> {
         Ok(file) => Ok(Some(file)),
         Err(_) => there(fs::open(rt, path)),
     }
+}
+
+// Fills `buf` from the front of a file, and answers how many bytes there were.
+fn read_front<R: Files<File = File>>(rt: &R, path: &str, buf: &mut [u8]) -> io::Result<usize>
+    ensures { IfOk result (λ n. n ≤ length buf.old) }
+{
+    fill(&fs::open(rt, path)?, 0, buf)
 }
 
 // What there is, or `None` where the path leads nowhere.

@@ -1,12 +1,13 @@
 //! The node page.
 
-ghost use Rattle.std.specs.Prelude.{◌≡◌, ◌≢◌, ◌+◌, ◌*◌, ◌≤◌, ℕ, None, length, IfOk};
+ghost use Rattle.std.specs.Prelude.{◌≡◌, ◌≢◌, ◌+◌, ◌*◌, ◌≤◌, ℕ, None, length, IfErr, IfOk};
 ghost use Rattle.spe_space.specs.Calls.{Reads, RefusesTree};
+ghost use Rattle.spe_space.specs.Found.{OnMissing};
 ghost use Rattle.spe_freelist.specs.Node.{firsts, IsNamed, ReadsNode};
 
 use crate::trunks::Trunks;
 use spe_model::u32_of;
-use spe_space::{Pages, SpaceFault, TreeFault};
+use spe_space::{Pages, TreeFault};
 use std::alloc::{AllocError, Global};
 
 // The first trunks that a node page names, in their order.
@@ -39,22 +40,22 @@ fn node_in(alloc: Global, page: &[u8]) -> Result<Option<Trunks>, AllocError>
 
 /// The first trunks that the node page `node` names, of which there are 1 to 16.
 ///
-/// Corrupt names the node page where it names another number of lists, or page 0 as a first trunk. The
-/// page is got once. (This project's own: the number of lists in four bytes, and then as many first
+/// Corrupt names the node page where it names another number of lists, or page 0 as a first trunk. No
+/// other page is asked for, and this one once. (This project's own: the number of lists in four bytes, and then as many first
 /// trunks, each in four.)
 pub fn read_node<S: Pages>(alloc: Global, space: &mut S, node: u32) -> Result<Trunks, TreeFault>
     requires { S.Pages.refusal space.old ≡ None }
     ensures found { ReadsNode S.Pages space.old space.new node result }
     ensures only { (n : ℕ) → n ≢ node → S.Pages.seen space.new n ≡ S.Pages.seen space.old n }
+    ensures page_out { IfErr result (OnMissing (λ at. at ≡ node)) }
     ensures kept { Reads S.Pages space.old space.new }
     ensures refusal { RefusesTree S.Pages space.old space.new result }
 {
     let mut buf = vec![in alloc; 0u8; space.page_size() as usize]?;
     let page = buf.as_mut_slice();
     space.get(node, page)?;
-    match node_in(alloc, page) {
-        Ok(Some(trunks)) => Ok(trunks),
-        Ok(None) => Err(TreeFault::Corrupt { page: node }),
-        Err(_) => Err(TreeFault::Space(SpaceFault::Memory)),
+    match node_in(alloc, page)? {
+        Some(trunks) => Ok(trunks),
+        None => Err(TreeFault::Corrupt { page: node }),
     }
 }

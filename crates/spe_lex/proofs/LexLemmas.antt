@@ -5,7 +5,6 @@ use Rattle.spe_model.specs.declared.token.Token.{Token}
 use Rattle.spe_model.specs.declared.token.SqlFault.{SqlFault}
 use Rattle.spe_model.specs.Token.{Lexeme, Piece, piece_of, map_ok, behind, lexemes_from, lexemes_of, token_of, AreSpans}
 use Rattle.spe_lex.specs.Piece.{piece_at}
-use Rattle.spe_lex.specs.Lexed.{standing}
 use Rattle.spe_lex.specs.Front.{Front, led_by, front_behind, front_from, front_of, whole}
 use Rattle.spe_lex.proofs.PieceLemmas.{IsPiece, Holds, pieces}
 
@@ -19,8 +18,14 @@ all_read xs = Ok xs
 abbrev pub ahead : List Lexeme → Front → Front
 ahead xs front = (xs ++ front.0, front.1)
 
-ahead_more : (xs ys : List Lexeme) (front : Front) → ahead (xs ++ ys) front ≡ ahead xs (ahead ys front)
-ahead_more xs ys front = ap (λ (zs : List Lexeme). (zs, front.1)) (append_assoc xs ys front.0)
+-- a turn of the loop over tokens
+pub token_led : (found : List Lexeme) (x : Lexeme) (before after all : Front) → before ≡ led_by x after → ahead found before ≡ all → ahead (found ++ (x ∷ [])) after ≡ all
+token_led found x before after all e same =
+    ap (λ (xs : List Lexeme). (xs, after.1)) (append_assoc found (x ∷ []) after.0) ∙ (ap (ahead found) (sym e) ∙ same)
+
+-- its end
+pub tokens_end : (found : List Lexeme) (fault : Option ℕ) (before all : Front) → before ≡ ([], fault) → ahead found before ≡ all → (found, fault) ≡ all
+tokens_end found fault before all e same = ap (λ (xs : List Lexeme). (xs, fault)) (sym (append-nil found)) ∙ (ap (ahead found) (sym e) ∙ same)
 
 passed_all : (n at : ℕ) (text : List ℕ) → front_from at n text ≡ front_from (at + n) 0 (drop n text)
 passed_all zero at text = let e : at + 0 ≡ at = omega arith in rw e refl
@@ -43,43 +48,34 @@ next_from at n b rest some =
 abbrev pub a_piece : Option TokenKind → ℕ → Option Piece
 a_piece kind n = Some (kind, n)
 
-turn : (at : ℕ) (left : List ℕ) (kind : Option TokenKind) (n : ℕ) → piece_at left ≡ a_piece kind n → 0 < n
-    → front_from at 0 left ≡ ahead (standing kind at (take n left)) (front_from (at + n) 0 (drop n left))
-turn at [] kind n e some = absurd cc
-turn at (b ∷ rest) None n e some =
-    ap (λ (o : Option Piece). front_behind at (b ∷ rest) o (λ m. front_from (at + 1) m rest)) e ∙ next_from at n b rest some
-turn at (b ∷ rest) (Some kind) n e some =
+-- a gap at the front
+pub gap_at : (at n : ℕ) (left : List ℕ) → piece_at left ≡ a_piece None n → 0 < n → front_from at 0 left ≡ front_from (at + n) 0 (drop n left)
+gap_at at n [] e some = absurd cc
+gap_at at n (b ∷ rest) e some = ap (λ (o : Option Piece). front_behind at (b ∷ rest) o (λ m. front_from (at + 1) m rest)) e ∙ next_from at n b rest some
+
+-- a token at the front
+pub token_at : (at n : ℕ) (kind : TokenKind) (left : List ℕ) → piece_at left ≡ a_piece (Some kind) n → 0 < n
+    → front_from at 0 left ≡ led_by (record { kind = kind; at = at; text = take n left }) (front_from (at + n) 0 (drop n left))
+token_at at n kind [] e some = absurd cc
+token_at at n kind (b ∷ rest) e some =
     ap (λ (o : Option Piece). front_behind at (b ∷ rest) o (λ m. front_from (at + 1) m rest)) e
     ∙ ap (led_by (record { kind = kind; at = at; text = take n (b ∷ rest) })) (next_from at n b rest some)
-
--- a turn of the loop
-pub loop_turn : (found : List Lexeme) (at : ℕ) (left : List ℕ) (kind : Option TokenKind) (n : ℕ) (all : Front) → piece_at left ≡ a_piece kind n → 0 < n
-    → ahead found (front_from at 0 left) ≡ all
-    → ahead (found ++ standing kind at (take n left)) (front_from (at + n) 0 (drop n left)) ≡ all
-loop_turn found at left kind n all e some same =
-    ahead_more found (standing kind at (take n left)) (front_from (at + n) 0 (drop n left)) ∙ (ap (ahead found) (sym (turn at left kind n e some)) ∙ same)
-
-abbrev pub no_fault : List Lexeme → Front
-no_fault xs = (xs, None)
-
-abbrev pub fault_at : List Lexeme → ℕ → Front
-fault_at xs at = (xs, Some at)
-
--- its end
-pub loop_end : (found : List Lexeme) (at : ℕ) (left : List ℕ) (all : Front) → length left ≡ 0 → ahead found (front_from at 0 left) ≡ all → no_fault found ≡ all
-loop_end found at [] all e same = ap no_fault (sym (append-nil found)) ∙ same
-loop_end found at (b ∷ rest) all e same = absurd (omega arith)
 
 abbrev no_piece : Option Piece
 no_piece = None
 
--- its stop
-pub loop_stop : (found : List Lexeme) (at : ℕ) (left : List ℕ) (all : Front) → 0 < length left → piece_at left ≡ no_piece → ahead found (front_from at 0 left) ≡ all
-    → fault_at found at ≡ all
-loop_stop found at [] all some e same = absurd (omega arith)
-loop_stop found at (b ∷ rest) all some e same =
-    ap (λ (xs : List Lexeme). fault_at xs at) (sym (append-nil found))
-    ∙ (sym (ap (ahead found) (ap (λ (o : Option Piece). front_behind at (b ∷ rest) o (λ m. front_from (at + 1) m rest)) e)) ∙ same)
+abbrev no_token : Option ℕ → Front
+no_token fault = ([], fault)
+
+-- a fault at the front
+pub fault_at : (at : ℕ) (left : List ℕ) → 0 < length left → piece_at left ≡ no_piece → front_from at 0 left ≡ no_token (Some at)
+fault_at at [] some e = absurd (omega arith)
+fault_at at (b ∷ rest) some e = ap (λ (o : Option Piece). front_behind at (b ∷ rest) o (λ m. front_from (at + 1) m rest)) e
+
+-- the end of a text
+pub end_at : (at : ℕ) (left : List ℕ) → length left ≡ 0 → front_from at 0 left ≡ no_token None
+end_at at [] e = refl
+end_at at (b ∷ rest) e = absurd (omega arith)
 
 whole_led : (x : Lexeme) (front : Front) → map_ok (λ xs. x ∷ xs) (whole front) ≡ whole (led_by x front)
 whole_led x (xs, None) = refl

@@ -1,3 +1,5 @@
 pub mod Piece
 pub mod Lexed
 pub mod Front
+pub mod Begins
+pub mod Reading

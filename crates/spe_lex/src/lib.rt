@@ -4,11 +4,15 @@
 //! at which none does. Want of memory alone is free.
 #![tactic(auto)]
 
+mod cursor;
 mod lexeme;
+mod next;
 mod piece;
 mod quotes;
 mod reading;
 
+pub use cursor::Cursor;
 pub use lexeme::Lexeme;
+pub use next::Next;
 pub use reading::{Front, lex, lexemes, read_front};
 pub use spe_model::{SqlFault, SqlKind, Token, TokenKind, Tokens};

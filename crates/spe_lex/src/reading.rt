@@ -1,30 +1,15 @@
 //! All tokens of a text.
 
-ghost use Rattle.std.specs.Prelude.{◌≡◌, ◌++◌, IfOk, IfSome, OnOk, map, length};
+ghost use Rattle.std.specs.Prelude.{◌≡◌, IfOk, map, length};
 ghost use Rattle.spe_model.specs.Token.{token_of, tokens_of, lexemes_of, AreSpans};
 ghost use Rattle.spe_lex.specs.Front.{front_of};
-ghost use Rattle.spe_lex.specs.Lexed.{Gives, IsSound, standing};
+ghost use Rattle.spe_lex.specs.Reading.{IsReading};
 
+use crate::cursor::Cursor;
 use crate::lexeme::Lexeme;
-use crate::piece::piece;
-use spe_model::{SqlFault, SqlKind, Token, TokenKind, Tokens};
+use crate::next::Next;
+use spe_model::{SqlFault, SqlKind, Token, Tokens};
 use std::alloc::{AllocError, Global};
-
-// Adds the token that a piece is, where it is one.
-fn push<'a>(
-    found: &mut Vec<Lexeme<'a>>,
-    kind: Option<TokenKind>,
-    at: u64,
-    text: &'a str,
-) -> Result<(), AllocError>
-    requires { IfSome kind (λ k. IsSound k text.now) }
-    ensures { OnOk result (found.new.items ≡ found.old.items ++ standing kind at text.now) }
-{
-    if let Some(kind) = kind {
-        found.push(Lexeme::new(kind, at, text))?;
-    }
-    Ok(())
-}
 
 /// The tokens of a text before its first fault.
 #[derive(Debug, Drop)]
@@ -40,31 +25,31 @@ pub fn read_front(alloc: Global, text: &str) -> Result<Front<'_>, AllocError>
     ensures { IfOk result (λ f. (f.lexemes.items, f.fault) ≡ front_of text.now) }
 {
     let mut found = Vec::new(alloc);
-    let mut left = text;
-    let mut at = 0;
-    while !left.is_empty() {
-        let Some((kind, len)) = piece(left.as_bytes()) else {
-            return Ok(Front {
-                lexemes: found,
-                fault: Some(at),
-            });
-        };
-        let (front, rest) = left.split_at(len);
-        push(&mut found, kind, at, front)?;
-        at += len as u64;
-        left = rest;
+    let mut cursor = Cursor::new(text);
+    'tokens: loop {
+        match cursor.next() {
+            Next::Token(lexeme) => found.push(lexeme)?,
+            Next::Fault(at) => {
+                return Ok(Front {
+                    lexemes: found,
+                    fault: Some(at),
+                });
+            }
+            Next::End => {
+                return Ok(Front {
+                    lexemes: found,
+                    fault: None,
+                });
+            }
+        }
     }
-    Ok(Front {
-        lexemes: found,
-        fault: None,
-    })
 }
 
 /// The tokens of a text with their bytes, in the order of their places.
 ///
 /// The fault is at the first byte at which no token, blank or comment stands.
 pub fn lexemes(alloc: Global, text: &str) -> Result<Vec<Lexeme<'_>>, SqlFault>
-    ensures { Gives (λ v. v.items) result (lexemes_of text.now) }
+    ensures { IsReading (λ v. v.items) result (lexemes_of text.now) }
 {
     match read_front(alloc, text) {
         Ok(front) => match front.fault {
@@ -88,7 +73,7 @@ fn tokens(alloc: Global, lexemes: &[Lexeme<'_>]) -> Result<Vec<Token>, AllocErro
 ///
 /// The fault is as of `lexemes`.
 pub fn lex(alloc: Global, text: &str) -> Result<Tokens, SqlFault>
-    ensures tokens { Gives (λ t. t) result (tokens_of text.now) }
+    ensures tokens { IsReading (λ t. t) result (tokens_of text.now) }
     ensures spans { IfOk result (AreSpans 0 (length text.now)) }
 {
     match lexemes(alloc, text) {

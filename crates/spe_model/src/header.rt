@@ -4,6 +4,7 @@ ghost use Rattle.std.specs.Prelude.{◌≡◌, ◌≢◌, length};
 ghost use Rattle.spe_model.specs.Header.{page_count_of};
 
 use crate::bytes::{u16_of, u32_of};
+use thiserror::Error;
 
 /// What the header of a database file names.
 ///
@@ -34,23 +35,31 @@ pub struct Header {
 }
 
 /// Why bytes are no header that is read here. Where several hold, the lowest number is answered.
-#[derive(Clone, Copy, Debug, PartialEq, Eq)]
+#[derive(Clone, Copy, Debug, PartialEq, Eq, Error)]
 pub enum HeaderFault {
     /// There are fewer than 100 bytes.
+    #[error("the file has fewer than 100 bytes")]
     Short = 1,
     /// The first 16 bytes, the payload fractions or a version byte are not a database's.
+    #[error("the file does not begin as a SQLite 3 database does")]
     NotADatabase = 2,
     /// A version byte names the write-ahead log.
+    #[error("the file is in write-ahead log mode: set its journal mode to DELETE by sqlite3")]
     Wal = 3,
     /// The page size is no power of two from 512 to 65536.
+    #[error("the page size is no power of two from 512 to 65536")]
     BadPageSize = 4,
     /// The file has auto-vacuum.
+    #[error("the file has auto-vacuum")]
     AutoVacuum = 5,
     /// The text encoding is not UTF-8.
+    #[error("the text encoding is not UTF-8")]
     Encoding = 6,
     /// Fewer than 480 bytes of a page can be used.
+    #[error("fewer than 480 bytes of a page can be used")]
     Reserved = 7,
     /// The schema format is neither 0 nor 4.
+    #[error("the schema format is neither 0 nor 4")]
     SchemaFormat = 8,
 }
 

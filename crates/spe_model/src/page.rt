@@ -5,6 +5,7 @@ ghost use Rattle.std.specs.Prelude.{◌≡◌};
 use crate::lists::Bytes;
 use std::alloc::{AllocError, AllocFailed};
 use std::marker::Model;
+use thiserror::Error;
 
 /// The four kinds of b-tree page.
 #[derive(Clone, Copy, Debug, PartialEq, Eq)]
@@ -77,19 +78,25 @@ pub struct PageCells {
 }
 
 /// Why a page could not be read. Where several hold, the lowest number is answered.
-#[derive(Clone, Copy, Debug, PartialEq, Eq)]
+#[derive(Clone, Copy, Debug, PartialEq, Eq, Error)]
 pub enum PageFault {
     /// The type byte is that of no kind.
+    #[error("the type byte is that of no b-tree page")]
     BadType = 1,
     /// The array of cell offsets, or one of its offsets, runs out of the usable bytes.
+    #[error("the cell offsets run out of the usable bytes")]
     OffsetOut = 2,
     /// A cell runs out of the usable bytes, or its payload is over 2^31 - 1 bytes.
+    #[error("a cell runs out of the usable bytes")]
     CellOut = 3,
     /// Two cells share a byte.
+    #[error("two cells share a byte")]
     Overlap = 4,
     /// The keys of a table page do not ascend strictly.
+    #[error("the keys do not ascend")]
     OutOfOrder = 5,
     /// There was no memory for the cells.
+    #[error("out of memory")]
     Memory = 6,
 }
 

@@ -4,6 +4,7 @@ ghost use Rattle.std.specs.Prelude.{◌≡◌};
 
 use std::alloc::{AllocError, AllocFailed};
 use std::marker::Model;
+use thiserror::Error;
 
 /// The kinds of token. This project's own.
 #[derive(Clone, Copy, Debug, PartialEq, Eq)]
@@ -66,22 +67,28 @@ impl Tokens {
 }
 
 /// What is wrong with a text. The numbers are this project's own.
-#[derive(Clone, Copy, Debug, PartialEq, Eq)]
+#[derive(Clone, Copy, Debug, PartialEq, Eq, Error)]
 pub enum SqlKind {
     /// No token begins so, or the one that does is not closed or has a bad body.
+    #[error("no token")]
     Token = 1,
     /// No rule admits the token here, or the text ends too early.
+    #[error("not expected")]
     Expected = 2,
     /// The same, where the token belongs to the part of SQL that is left out.
+    #[error("not supported")]
     Unsupported = 3,
     /// A whole number does not fit 64 bits.
+    #[error("a whole number past 64 bits")]
     NumberRange = 4,
     /// There was no memory.
+    #[error("out of memory")]
     Memory = 5,
 }
 
 /// Why a text is refused, and the place in bytes at which that shows; 0 for want of memory.
-#[derive(Clone, Copy, Debug, PartialEq, Eq)]
+#[derive(Clone, Copy, Debug, PartialEq, Eq, Error)]
+#[error("{kind} at byte {at}")]
 pub struct SqlFault {
     pub at: u64,
     pub kind: SqlKind,

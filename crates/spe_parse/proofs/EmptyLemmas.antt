@@ -1,6 +1,6 @@
 -- No part stands where nothing does.
 use Rattle.std.proofs.Common.{◌≡◌, [], refl}
-use Rattle.spe_parse.specs.declared.stop.Stop.TheVariants.{Ends}
+use Rattle.spe_parse.specs.declared.halt.Halt.TheVariants.{Ends}
 use Rattle.spe_parse.specs.Part.{single}
 use Rattle.spe_parse.specs.Number.{literal_at}
 use Rattle.spe_parse.specs.Clause.{cond_at, set_at}

@@ -8,8 +8,8 @@ use Rattle.spe_model.specs.declared.token.SqlKind.TheVariants.{Token, Expected}
 use Rattle.spe_model.specs.Definition.{is_word, is_sign}
 use Rattle.spe_model.specs.Token.{Lexeme}
 use Rattle.spe_lex.specs.Front.{front_of}
-use Rattle.spe_parse.specs.declared.stop.Stop.{Stop}
-use Rattle.spe_parse.specs.declared.stop.Stop.TheVariants.{Fault}
+use Rattle.spe_parse.specs.declared.halt.Halt.{Halt}
+use Rattle.spe_parse.specs.declared.halt.Halt.TheVariants.{Fault}
 use Rattle.spe_parse.specs.Part.{Part, ◌>>=◌, refused, stands, after, name_at, listed, enclosed}
 use Rattle.spe_parse.specs.Number.{literal_at}
 use Rattle.spe_parse.specs.Clause.{where_at, set_at}
@@ -93,12 +93,13 @@ statement_at (x ∷ xs) =
 abbrev pub past_semicolon : List Lexeme → List Lexeme
 past_semicolon xs = if stands (is_sign (codes ";")) xs then drop 1 xs else xs
 
-abbrev pub if_nothing : Statement → List Lexeme → Result Statement Stop
-if_nothing statement [] = Ok statement
-if_nothing statement (x ∷ xs) = refused (x ∷ xs)
+-- this, where nothing is left
+abbrev pub if_nothing : {A : Type 0} → A → List Lexeme → Result A Halt
+if_nothing found [] = Ok found
+if_nothing found (x ∷ xs) = refused (x ∷ xs)
 
 -- one statement, which a `;` may end, with nothing behind it
-unfoldable pub sole_at : List Lexeme → Result Statement Stop
+unfoldable pub sole_at : List Lexeme → Result Statement Halt
 sole_at xs = do
   found ← statement_at xs
   if_nothing found.0 (past_semicolon found.1)
@@ -108,13 +109,13 @@ abbrev pub end_fault : ℕ → Option ℕ → SqlFault
 end_fault size None = record { at = size; kind = Expected }
 end_fault size (Some at) = record { at = at; kind = Token }
 
-abbrev pub fault_of : ℕ → Option ℕ → Stop → SqlFault
+abbrev pub fault_of : ℕ → Option ℕ → Halt → SqlFault
 fault_of size unread (Fault fault) = fault
 fault_of size unread _ = end_fault size unread
 
 -- a statement is found only where all of the text is read
-abbrev pub answer_of : ℕ → Option ℕ → Result Statement Stop → Result Statement SqlFault
-answer_of size unread (Err stop) = Err (fault_of size unread stop)
+abbrev pub answer_of : ℕ → Option ℕ → Result Statement Halt → Result Statement SqlFault
+answer_of size unread (Err halt) = Err (fault_of size unread halt)
 answer_of size None (Ok statement) = Ok statement
 answer_of size (Some at) (Ok statement) = Err (end_fault size (Some at))
 

@@ -3,5 +3,5 @@ pub mod Word
 pub mod Number
 pub mod Clause
 pub mod Grammar
-pub mod Gives
+pub mod Read
 pub mod Answer

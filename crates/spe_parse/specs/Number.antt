@@ -6,7 +6,7 @@ use Rattle.spe_model.specs.declared.value.Value.{Value}
 use Rattle.spe_model.specs.declared.value.Value.TheVariants as values
 use Rattle.spe_model.specs.Definition.{is_word, is_sign, is_number}
 use Rattle.spe_model.specs.Token.{Lexeme, unquoted, blob_bytes}
-use Rattle.spe_parse.specs.declared.stop.Stop.TheVariants.{Fault}
+use Rattle.spe_parse.specs.declared.halt.Halt.TheVariants.{Fault}
 use Rattle.spe_parse.specs.Part.{Part, ◌>>=◌, refused}
 use Rattle.spe_parse.specs.Word.{is_string, is_blob}
 

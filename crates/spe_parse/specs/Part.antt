@@ -5,29 +5,29 @@ use Rattle.spe_model.specs.declared.token.SqlKind.{SqlKind}
 use Rattle.spe_model.specs.declared.token.SqlKind.TheVariants.{Expected, Unsupported}
 use Rattle.spe_model.specs.Definition.{is_sign}
 use Rattle.spe_model.specs.Token.{Lexeme, unquoted}
-use Rattle.spe_parse.specs.declared.stop.Stop.{Stop}
-use Rattle.spe_parse.specs.declared.stop.Stop.TheVariants.{Ends, Fault}
+use Rattle.spe_parse.specs.declared.halt.Halt.{Halt}
+use Rattle.spe_parse.specs.declared.halt.Halt.TheVariants.{Ends, Fault}
 use Rattle.spe_parse.specs.Word.{is_left_out, is_name}
 
 abbrev pub Part : Type 0 → Type 0
-Part X = Result (X × List Lexeme) Stop
+Part X = Result (X × List Lexeme) Halt
 
 infixl 10 ◌>>=◌
-abbrev pub ◌>>=◌ : {A B : Type 0} → Result A Stop → (A → Result B Stop) → Result B Stop
+abbrev pub ◌>>=◌ : {A B : Type 0} → Result A Halt → (A → Result B Halt) → Result B Halt
 (Ok x) >>= f = f x
-(Err stop) >>= f = Err stop
+(Err halt) >>= f = Err halt
 
 -- why a token is refused where no rule admits it
 abbrev pub kind_of : Lexeme → SqlKind
 kind_of x = if is_left_out x then Unsupported else Expected
 
 -- where the reading stops if no rule admits what stands at the front
-abbrev pub stop_at : List Lexeme → Stop
-stop_at [] = Ends
-stop_at (x ∷ xs) = Fault (record { at = x.at; kind = kind_of x })
+abbrev pub halt_at : List Lexeme → Halt
+halt_at [] = Ends
+halt_at (x ∷ xs) = Fault (record { at = x.at; kind = kind_of x })
 
-abbrev pub refused : {A : Type 0} → List Lexeme → Result A Stop
-refused xs = Err (stop_at xs)
+abbrev pub refused : {A : Type 0} → List Lexeme → Result A Halt
+refused xs = Err (halt_at xs)
 
 -- such a token stands at the front
 abbrev pub stands : (Lexeme → Bool) → List Lexeme → Bool
@@ -35,7 +35,7 @@ stands test [] = false
 stands test (x ∷ xs) = test x
 
 -- what follows such a token
-abbrev pub after : (Lexeme → Bool) → List Lexeme → Result (List Lexeme) Stop
+abbrev pub after : (Lexeme → Bool) → List Lexeme → Result (List Lexeme) Halt
 after test [] = refused []
 after test (x ∷ xs) = if test x then Ok xs else refused (x ∷ xs)
 
@@ -47,7 +47,7 @@ name_at (x ∷ xs) = if is_name x then Ok (unquoted x.text, xs) else refused (x 
 -- what is read, behind what was read before
 abbrev pub ahead : {A : Type 0} → List A → Part (List A) → Part (List A)
 ahead found (Ok (xs, rest)) = Ok (found ++ xs, rest)
-ahead found (Err stop) = Err stop
+ahead found (Err halt) = Err halt
 
 -- parts with such a token between each two, as many as stand there, but at most so many
 abbrev pub parts_within : {A : Type 0} → ℕ → (Lexeme → Bool) → (List Lexeme → Part (List A)) → List Lexeme → Part (List A)

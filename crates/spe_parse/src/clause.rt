@@ -5,19 +5,19 @@ ghost use Rattle.spe_model.specs.Definition.{is_sign};
 ghost use Rattle.spe_parse.specs.Part.{ahead, name_at, listed, enclosed};
 ghost use Rattle.spe_parse.specs.Number.{literal_at};
 ghost use Rattle.spe_parse.specs.Clause.{op_of, op_at, comparison_at, bounds_at, cond_at, conds_at, where_at, set_at};
-ghost use Rattle.spe_parse.specs.Gives.{Gives};
+ghost use Rattle.spe_parse.specs.Read.{IsPart};
 
+use crate::halt::Halt;
 use crate::left::Left;
 use crate::number::{integer, literal};
-use crate::stop::Stop;
 use crate::word::is_sign;
 use spe_lex::Lexeme;
 use spe_model::{Cond, Conds, Copies, Names, Op, Set, Sets, Text, Values};
 use std::alloc::Global;
 
 /// Reads names with commas between them.
-pub fn names(left: &mut Left<'_>, alloc: Global) -> Result<Names, Stop>
-    ensures { Gives (λ n. (n, left.new)) result (listed name_at left.old) }
+pub fn names(left: &mut Left<'_, '_>, alloc: Global) -> Result<Names, Halt>
+    ensures { IsPart (λ n. (n, left.new)) result (listed name_at left.old) }
 {
     let mut found = Vec::new(alloc);
     'names: loop {
@@ -30,8 +30,8 @@ pub fn names(left: &mut Left<'_>, alloc: Global) -> Result<Names, Stop>
 }
 
 /// Reads names in parentheses.
-pub fn enclosed_names(left: &mut Left<'_>, alloc: Global) -> Result<Names, Stop>
-    ensures { Gives (λ n. (n, left.new)) result (enclosed name_at left.old) }
+pub fn enclosed_names(left: &mut Left<'_, '_>, alloc: Global) -> Result<Names, Halt>
+    ensures { IsPart (λ n. (n, left.new)) result (enclosed name_at left.old) }
 {
     left.sign("(")?;
     let names = names(left, alloc)?;
@@ -40,8 +40,8 @@ pub fn enclosed_names(left: &mut Left<'_>, alloc: Global) -> Result<Names, Stop>
 }
 
 // Reads literals with commas between them.
-fn literals(left: &mut Left<'_>, alloc: Global) -> Result<Values, Stop>
-    ensures { Gives (λ v. (v, left.new)) result (listed literal_at left.old) }
+fn literals(left: &mut Left<'_, '_>, alloc: Global) -> Result<Values, Halt>
+    ensures { IsPart (λ v. (v, left.new)) result (listed literal_at left.old) }
 {
     let mut found = Vec::new(alloc);
     'literals: loop {
@@ -54,8 +54,8 @@ fn literals(left: &mut Left<'_>, alloc: Global) -> Result<Values, Stop>
 }
 
 /// Reads literals in parentheses.
-pub fn enclosed_literals(left: &mut Left<'_>, alloc: Global) -> Result<Values, Stop>
-    ensures { Gives (λ v. (v, left.new)) result (enclosed literal_at left.old) }
+pub fn enclosed_literals(left: &mut Left<'_, '_>, alloc: Global) -> Result<Values, Halt>
+    ensures { IsPart (λ v. (v, left.new)) result (enclosed literal_at left.old) }
 {
     left.sign("(")?;
     let values = literals(left, alloc)?;
@@ -65,8 +65,8 @@ pub fn enclosed_literals(left: &mut Left<'_>, alloc: Global) -> Result<Values, S
 
 // Reads a name that is set to a literal.
 #[tactic(auto, unfolding(crate::specs::Clause::set_at))]
-fn set(left: &mut Left<'_>, alloc: Global) -> Result<Set, Stop>
-    ensures set { Gives (λ s. (s, left.new)) result (set_at left.old) }
+fn set(left: &mut Left<'_, '_>, alloc: Global) -> Result<Set, Halt>
+    ensures set { IsPart (λ s. (s, left.new)) result (set_at left.old) }
     ensures shorter { OnOk result (length left.new < length left.old) }
 {
     let name = left.name(alloc)?;
@@ -76,8 +76,8 @@ fn set(left: &mut Left<'_>, alloc: Global) -> Result<Set, Stop>
 }
 
 /// Reads names that are set to literals, with commas between them.
-pub fn sets(left: &mut Left<'_>, alloc: Global) -> Result<Sets, Stop>
-    ensures { Gives (λ s. (s, left.new)) result (listed set_at left.old) }
+pub fn sets(left: &mut Left<'_, '_>, alloc: Global) -> Result<Sets, Halt>
+    ensures { IsPart (λ s. (s, left.new)) result (listed set_at left.old) }
 {
     let mut found = Vec::new(alloc);
     'sets: loop {
@@ -110,15 +110,15 @@ fn op_of(token: &Lexeme<'_>) -> Option<Op>
 }
 
 // Reads the sign of a comparison.
-fn op(left: &mut Left<'_>) -> Result<Op, Stop>
-    ensures op { Gives (λ o. (o, left.new)) result (op_at left.old) }
+fn op(left: &mut Left<'_, '_>) -> Result<Op, Halt>
+    ensures op { IsPart (λ o. (o, left.new)) result (op_at left.old) }
     ensures shorter { OnOk result (length left.new < length left.old) }
 {
     let [first, ..] = left.tokens() else {
-        return Err(Stop::Ends);
+        return Err(Halt::Ends);
     };
     let Some(op) = op_of(first) else {
-        return Err(left.stop());
+        return Err(left.halt());
     };
     left.pass();
     Ok(op)
@@ -126,8 +126,8 @@ fn op(left: &mut Left<'_>) -> Result<Op, Stop>
 
 // Reads what a name is compared with.
 #[tactic(auto, unfolding(crate::specs::Clause::comparison_at))]
-fn comparison(left: &mut Left<'_>, name: Text, found: &mut Vec<Cond>) -> Result<(), Stop>
-    ensures conds { Gives (λ _. (found.new.items, left.new)) result (ahead found.old.items (comparison_at name left.old)) }
+fn comparison(left: &mut Left<'_, '_>, name: Text, found: &mut Vec<Cond>) -> Result<(), Halt>
+    ensures conds { IsPart (λ _. (found.new.items, left.new)) result (ahead found.old.items (comparison_at name left.old)) }
     ensures shorter { OnOk result (length left.new < length left.old) }
 {
     let op = op(left)?;
@@ -138,8 +138,13 @@ fn comparison(left: &mut Left<'_>, name: Text, found: &mut Vec<Cond>) -> Result<
 
 // Reads the two bounds of a name.
 #[tactic(auto, unfolding(crate::specs::Clause::bounds_at))]
-fn bounds(left: &mut Left<'_>, alloc: Global, name: Text, found: &mut Vec<Cond>) -> Result<(), Stop>
-    ensures conds { Gives (λ _. (found.new.items, left.new)) result (ahead found.old.items (bounds_at name left.old)) }
+fn bounds(
+    left: &mut Left<'_, '_>,
+    alloc: Global,
+    name: Text,
+    found: &mut Vec<Cond>,
+) -> Result<(), Halt>
+    ensures conds { IsPart (λ _. (found.new.items, left.new)) result (ahead found.old.items (bounds_at name left.old)) }
     ensures shorter { OnOk result (length left.new < length left.old) }
 {
     let low = integer(left)?;
@@ -160,8 +165,8 @@ fn bounds(left: &mut Left<'_>, alloc: Global, name: Text, found: &mut Vec<Cond>)
 
 // Reads a condition.
 #[tactic(auto, unfolding(crate::specs::Clause::cond_at))]
-fn cond(left: &mut Left<'_>, alloc: Global, found: &mut Vec<Cond>) -> Result<(), Stop>
-    ensures conds { Gives (λ _. (found.new.items, left.new)) result (ahead found.old.items (cond_at left.old)) }
+fn cond(left: &mut Left<'_, '_>, alloc: Global, found: &mut Vec<Cond>) -> Result<(), Halt>
+    ensures conds { IsPart (λ _. (found.new.items, left.new)) result (ahead found.old.items (cond_at left.old)) }
     ensures shorter { OnOk result (length left.new < length left.old) }
 {
     let name = left.name(alloc)?;
@@ -174,8 +179,8 @@ fn cond(left: &mut Left<'_>, alloc: Global, found: &mut Vec<Cond>) -> Result<(),
 }
 
 // Reads conditions with AND between each two.
-fn conds(left: &mut Left<'_>, alloc: Global) -> Result<Conds, Stop>
-    ensures { Gives (λ c. (c, left.new)) result (conds_at left.old) }
+fn conds(left: &mut Left<'_, '_>, alloc: Global) -> Result<Conds, Halt>
+    ensures { IsPart (λ c. (c, left.new)) result (conds_at left.old) }
 {
     let mut found = Vec::new(alloc);
     'conds: loop {
@@ -189,8 +194,8 @@ fn conds(left: &mut Left<'_>, alloc: Global) -> Result<Conds, Stop>
 
 /// Reads the conditions behind WHERE, which may be missing.
 #[tactic(auto, unfolding(crate::specs::Clause::where_at))]
-pub fn filter(left: &mut Left<'_>, alloc: Global) -> Result<Conds, Stop>
-    ensures { Gives (λ c. (c, left.new)) result (where_at left.old) }
+pub fn filter(left: &mut Left<'_, '_>, alloc: Global) -> Result<Conds, Halt>
+    ensures { IsPart (λ c. (c, left.new)) result (where_at left.old) }
 {
     if !left.stands_word("WHERE") {
         return Ok(Conds::new(Vec::new(alloc)));

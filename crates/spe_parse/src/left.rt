@@ -1,6 +1,6 @@
 //! Tokens that are left to be read.
 
-use crate::stop::Stop;
+use crate::halt::Halt;
 use crate::word::{is_name, is_sign, is_word, kind_of};
 use spe_lex::Lexeme;
 use spe_model::{SqlFault, Text};
@@ -9,11 +9,11 @@ use std::marker::Model;
 
 /// Tokens that are left to be read, seen as a list. What reading leaves where it stops is not said.
 #[derive(Debug, Drop)]
-pub struct Left<'t> {
-    tokens: &'t [Lexeme<'t>],
+pub struct Left<'l, 't> {
+    tokens: &'l [Lexeme<'t>],
 }
 
-impl<'t> Model for Left<'t> {
+impl<'l, 't> Model for Left<'l, 't> {
     ghost use Rattle.std.specs.Prelude.{List};
     ghost use Rattle.spe_model.specs.Token.{Lexeme as Seen};
 
@@ -22,21 +22,21 @@ impl<'t> Model for Left<'t> {
     ghost view = { λ l. l.tokens.now };
 }
 
-impl<'t> Left<'t> {
+impl<'l, 't> Left<'l, 't> {
     ghost use Rattle.std.specs.Prelude.{◌≡◌, ◌<◌, OnOk, length, drop};
     ghost use Rattle.spe_model.specs.Definition.{is_word, is_sign};
-    ghost use Rattle.spe_parse.specs.Part.{stop_at, stands, after, name_at};
-    ghost use Rattle.spe_parse.specs.Gives.{Gives};
+    ghost use Rattle.spe_parse.specs.Part.{halt_at, stands, after, name_at};
+    ghost use Rattle.spe_parse.specs.Read.{IsPart};
 
     /// All of these.
-    pub fn new(tokens: &'t [Lexeme<'t>]) -> Left<'t>
+    pub fn new(tokens: &'l [Lexeme<'t>]) -> Left<'l, 't>
         ensures { result ≡ tokens.now }
     {
         Left { tokens }
     }
 
     /// Those that are left.
-    pub fn tokens(&self) -> &'t [Lexeme<'t>]
+    pub fn tokens(&self) -> &'l [Lexeme<'t>]
         ensures { result.now ≡ self.now }
     {
         self.tokens
@@ -52,15 +52,15 @@ impl<'t> Left<'t> {
     }
 
     /// Why reading stops where no rule admits what stands at the front.
-    pub fn stop(&self) -> Stop
-        ensures { result ≡ stop_at self.now }
+    pub fn halt(&self) -> Halt
+        ensures { result ≡ halt_at self.now }
     {
         match self.tokens {
-            [first, ..] => Stop::Fault(SqlFault {
+            [first, ..] => Halt::Fault(SqlFault {
                 at: first.at(),
                 kind: kind_of(first),
             }),
-            [] => Stop::Ends,
+            [] => Halt::Ends,
         }
     }
 
@@ -85,37 +85,37 @@ impl<'t> Left<'t> {
     }
 
     /// Passes this word, which has to stand at the front.
-    pub fn word(&mut self, word: &str) -> Result<(), Stop>
-        ensures { Gives (λ _. self.new) result (after (is_word word.now) self.old) }
+    pub fn word(&mut self, word: &str) -> Result<(), Halt>
+        ensures { IsPart (λ _. self.new) result (after (is_word word.now) self.old) }
     {
         if !self.stands_word(word) {
-            return Err(self.stop());
+            return Err(self.halt());
         }
         self.pass();
         Ok(())
     }
 
     /// Passes this sign, which has to stand at the front.
-    pub fn sign(&mut self, sign: &str) -> Result<(), Stop>
-        ensures { Gives (λ _. self.new) result (after (is_sign sign.now) self.old) }
+    pub fn sign(&mut self, sign: &str) -> Result<(), Halt>
+        ensures { IsPart (λ _. self.new) result (after (is_sign sign.now) self.old) }
     {
         if !self.stands_sign(sign) {
-            return Err(self.stop());
+            return Err(self.halt());
         }
         self.pass();
         Ok(())
     }
 
     /// Reads a name.
-    pub fn name(&mut self, alloc: Global) -> Result<Text, Stop>
-        ensures name { Gives (λ t. (t, self.new)) result (name_at self.old) }
+    pub fn name(&mut self, alloc: Global) -> Result<Text, Halt>
+        ensures name { IsPart (λ t. (t, self.new)) result (name_at self.old) }
         ensures shorter { OnOk result (length self.new < length self.old) }
     {
         let [first, rest @ ..] = self.tokens else {
-            return Err(Stop::Ends);
+            return Err(Halt::Ends);
         };
         if !is_name(first) {
-            return Err(self.stop());
+            return Err(self.halt());
         }
         let name = first.unquoted(alloc)?;
         self.tokens = rest;

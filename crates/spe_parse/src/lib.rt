@@ -5,15 +5,16 @@
 #![tactic(auto)]
 
 mod clause;
+mod halt;
 mod left;
 mod number;
 mod reading;
 mod statement;
-mod stop;
 mod word;
 
+pub use halt::Halt;
 pub use left::Left;
 pub use reading::parse;
 pub use spe_model::{SqlFault, SqlKind, Statement};
 pub use statement::read_statement;
-pub use stop::Stop;
+pub use word::is_sign;

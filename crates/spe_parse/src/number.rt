@@ -4,10 +4,10 @@ ghost use Rattle.std.specs.Prelude.{◌≡◌, ◌<◌, true, OnOk, length};
 ghost use Rattle.std.specs.Str.Parse.{digits_value};
 ghost use Rattle.spe_lex.specs.Lexed.{AreDigits};
 ghost use Rattle.spe_parse.specs.Number.{fitting, signed_fitting, number_at, integer_at, literal_at};
-ghost use Rattle.spe_parse.specs.Gives.{Gives};
+ghost use Rattle.spe_parse.specs.Read.{IsPart};
 
+use crate::halt::Halt;
 use crate::left::Left;
-use crate::stop::Stop;
 use crate::word::{is_blob, is_number, is_sign, is_string, is_word};
 use spe_model::{SqlFault, SqlKind, Value};
 use std::alloc::Global;
@@ -63,18 +63,18 @@ fn signed_digits(negative: bool, digits: &str) -> Option<i64>
 
 // Reads digits whose sign, where they have one, is at this place.
 #[tactic(auto, unfolding(crate::specs::Number::number_at))]
-fn number(left: &mut Left<'_>, at: u64, negative: bool) -> Result<i64, Stop>
-    ensures number { Gives (λ n. (n, left.new)) result (number_at at negative left.old) }
+fn number(left: &mut Left<'_, '_>, at: u64, negative: bool) -> Result<i64, Halt>
+    ensures number { IsPart (λ n. (n, left.new)) result (number_at at negative left.old) }
     ensures shorter { OnOk result (length left.new < length left.old) }
 {
     let [first, ..] = left.tokens() else {
-        return Err(Stop::Ends);
+        return Err(Halt::Ends);
     };
     if !is_number(first) {
-        return Err(left.stop());
+        return Err(left.halt());
     }
     let Some(number) = signed_digits(negative, first.digits()) else {
-        return Err(Stop::Fault(SqlFault {
+        return Err(Halt::Fault(SqlFault {
             at,
             kind: SqlKind::NumberRange,
         }));
@@ -85,12 +85,12 @@ fn number(left: &mut Left<'_>, at: u64, negative: bool) -> Result<i64, Stop>
 
 /// Reads a whole number, which may have a sign.
 #[tactic(auto, unfolding(crate::specs::Number::integer_at))]
-pub fn integer(left: &mut Left<'_>) -> Result<i64, Stop>
-    ensures integer { Gives (λ n. (n, left.new)) result (integer_at left.old) }
+pub fn integer(left: &mut Left<'_, '_>) -> Result<i64, Halt>
+    ensures integer { IsPart (λ n. (n, left.new)) result (integer_at left.old) }
     ensures shorter { OnOk result (length left.new < length left.old) }
 {
     let [first, ..] = left.tokens() else {
-        return Err(Stop::Ends);
+        return Err(Halt::Ends);
     };
     let at = first.at();
     if is_sign("-", first) {
@@ -106,12 +106,12 @@ pub fn integer(left: &mut Left<'_>) -> Result<i64, Stop>
 
 /// Reads NULL, a string, a blob or a whole number.
 #[tactic(auto, unfolding(crate::specs::Number::literal_at))]
-pub fn literal(left: &mut Left<'_>, alloc: Global) -> Result<Value, Stop>
-    ensures literal { Gives (λ v. (v, left.new)) result (literal_at left.old) }
+pub fn literal(left: &mut Left<'_, '_>, alloc: Global) -> Result<Value, Halt>
+    ensures literal { IsPart (λ v. (v, left.new)) result (literal_at left.old) }
     ensures shorter { OnOk result (length left.new < length left.old) }
 {
     let [first, ..] = left.tokens() else {
-        return Err(Stop::Ends);
+        return Err(Halt::Ends);
     };
     let value = if is_word("NULL", first) {
         Value::Null

@@ -2,18 +2,19 @@
 
 ghost use Rattle.std.specs.Prelude.{◌≡◌};
 ghost use Rattle.spe_parse.specs.Grammar.{past_semicolon, sole_at, end_fault, statement_of};
-ghost use Rattle.spe_parse.specs.Gives.{Gives, Answers};
-ghost use Rattle.spe_parse.specs.Answer.{AnswersFor};
+ghost use Rattle.spe_lex.specs.Reading.{IsReading};
+ghost use Rattle.spe_parse.specs.Read.{IsPart};
+ghost use Rattle.spe_parse.specs.Answer.{IsAnswerTo};
 
+use crate::halt::Halt;
 use crate::left::Left;
 use crate::statement::read_statement;
-use crate::stop::Stop;
 use spe_lex::read_front;
 use spe_model::{SqlFault, SqlKind, Statement};
 use std::alloc::Global;
 
 // Passes a `;`, where it stands at the front.
-fn pass_semicolon(left: &mut Left<'_>)
+fn pass_semicolon(left: &mut Left<'_, '_>)
     ensures { left.new ≡ past_semicolon left.old }
 {
     if left.stands_sign(";") {
@@ -23,14 +24,14 @@ fn pass_semicolon(left: &mut Left<'_>)
 
 // Reads one statement, with nothing behind it but a `;`.
 #[tactic(auto, unfolding(crate::specs::Grammar::sole_at))]
-fn sole(left: &mut Left<'_>, alloc: Global) -> Result<Statement, Stop>
-    ensures { Gives (λ s. s) result (sole_at left.old) }
+fn sole(left: &mut Left<'_, '_>, alloc: Global) -> Result<Statement, Halt>
+    ensures { IsPart (λ s. s) result (sole_at left.old) }
 {
     let statement = read_statement(left, alloc)?;
     pass_semicolon(left);
     match left.tokens() {
         [] => Ok(statement),
-        _ => Err(left.stop()),
+        _ => Err(left.halt()),
     }
 }
 
@@ -54,18 +55,18 @@ fn end_fault(size: u64, unread: Option<u64>) -> SqlFault
 fn answer(
     size: u64,
     unread: Option<u64>,
-    found: Result<Statement, Stop>,
+    found: Result<Statement, Halt>,
 ) -> Result<Statement, SqlFault>
-    ensures { AnswersFor size unread found result }
+    ensures { IsAnswerTo size unread found result }
 {
     match found {
         Ok(statement) => match unread {
             None => Ok(statement),
             Some(_) => Err(end_fault(size, unread)),
         },
-        Err(Stop::Fault(fault)) => Err(fault),
-        Err(Stop::Ends) => Err(end_fault(size, unread)),
-        Err(Stop::Memory) => Err(SqlFault {
+        Err(Halt::Fault(fault)) => Err(fault),
+        Err(Halt::Ends) => Err(end_fault(size, unread)),
+        Err(Halt::Memory) => Err(SqlFault {
             at: 0,
             kind: SqlKind::Memory,
         }),
@@ -80,7 +81,7 @@ fn answer(
 /// grammar is this project's own, and `docs/STATEMENTS.md` has it. `Memory` stands at 0 and is tied
 /// to nothing.
 pub fn parse(alloc: Global, text: &str) -> Result<Statement, SqlFault>
-    ensures { Answers result (statement_of text.now) }
+    ensures { IsReading (λ s. s) result (statement_of text.now) }
 {
     let front = read_front(alloc, text)?;
     let mut left = Left::new(front.lexemes.as_slice());

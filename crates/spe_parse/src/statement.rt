@@ -2,19 +2,19 @@
 
 ghost use Rattle.std.specs.Prelude.{◌≡◌};
 ghost use Rattle.spe_parse.specs.Grammar.{from_at, stands_count, count_at, columns_at, shown_at, select_at, targets_at, insert_at, update_at, delete_at, statement_at};
-ghost use Rattle.spe_parse.specs.Gives.{Gives};
+ghost use Rattle.spe_parse.specs.Read.{IsPart};
 
 use crate::clause::{enclosed_literals, enclosed_names, filter, names, sets};
+use crate::halt::Halt;
 use crate::left::Left;
-use crate::stop::Stop;
 use crate::word::{is_sign, is_word};
 use spe_model::{Conds, Names, Statement, Text};
 use std::alloc::Global;
 
 // Reads the table behind FROM, and the conditions on its rows.
 #[tactic(auto, unfolding(crate::specs::Grammar::from_at))]
-fn from(left: &mut Left<'_>, alloc: Global) -> Result<(Text, Conds), Stop>
-    ensures { Gives (λ f. (f, left.new)) result (from_at left.old) }
+fn from(left: &mut Left<'_, '_>, alloc: Global) -> Result<(Text, Conds), Halt>
+    ensures { IsPart (λ f. (f, left.new)) result (from_at left.old) }
 {
     left.word("FROM")?;
     let table = left.name(alloc)?;
@@ -23,7 +23,7 @@ fn from(left: &mut Left<'_>, alloc: Global) -> Result<(Text, Conds), Stop>
 }
 
 // Whether COUNT and a parenthesis stand at the front.
-fn stands_count(left: &Left<'_>) -> bool
+fn stands_count(left: &Left<'_, '_>) -> bool
     ensures { result ≡ stands_count left.now }
 {
     match left.tokens() {
@@ -34,8 +34,8 @@ fn stands_count(left: &Left<'_>) -> bool
 
 // Reads what follows `COUNT (`.
 #[tactic(auto, unfolding(crate::specs::Grammar::count_at))]
-fn count(left: &mut Left<'_>, alloc: Global) -> Result<Statement, Stop>
-    ensures { Gives (λ s. (s, left.new)) result (count_at left.old) }
+fn count(left: &mut Left<'_, '_>, alloc: Global) -> Result<Statement, Halt>
+    ensures { IsPart (λ s. (s, left.new)) result (count_at left.old) }
 {
     left.sign("*")?;
     left.sign(")")?;
@@ -45,8 +45,8 @@ fn count(left: &mut Left<'_>, alloc: Global) -> Result<Statement, Stop>
 
 // Reads whether all columns are shown, and otherwise which.
 #[tactic(auto, unfolding(crate::specs::Grammar::columns_at))]
-fn columns(left: &mut Left<'_>, alloc: Global) -> Result<(bool, Names), Stop>
-    ensures { Gives (λ c. (c, left.new)) result (columns_at left.old) }
+fn columns(left: &mut Left<'_, '_>, alloc: Global) -> Result<(bool, Names), Halt>
+    ensures { IsPart (λ c. (c, left.new)) result (columns_at left.old) }
 {
     if left.stands_sign("*") {
         left.pass();
@@ -57,8 +57,8 @@ fn columns(left: &mut Left<'_>, alloc: Global) -> Result<(bool, Names), Stop>
 
 // Reads which columns are shown, and of which rows.
 #[tactic(auto, unfolding(crate::specs::Grammar::shown_at))]
-fn shown(left: &mut Left<'_>, alloc: Global) -> Result<Statement, Stop>
-    ensures { Gives (λ s. (s, left.new)) result (shown_at left.old) }
+fn shown(left: &mut Left<'_, '_>, alloc: Global) -> Result<Statement, Halt>
+    ensures { IsPart (λ s. (s, left.new)) result (shown_at left.old) }
 {
     let (all, columns) = columns(left, alloc)?;
     let (table, conds) = from(left, alloc)?;
@@ -72,8 +72,8 @@ fn shown(left: &mut Left<'_>, alloc: Global) -> Result<Statement, Stop>
 
 // Reads what follows SELECT.
 #[tactic(auto, unfolding(crate::specs::Grammar::select_at))]
-fn select(left: &mut Left<'_>, alloc: Global) -> Result<Statement, Stop>
-    ensures { Gives (λ s. (s, left.new)) result (select_at left.old) }
+fn select(left: &mut Left<'_, '_>, alloc: Global) -> Result<Statement, Halt>
+    ensures { IsPart (λ s. (s, left.new)) result (select_at left.old) }
 {
     if !stands_count(left) {
         return shown(left, alloc);
@@ -85,8 +85,8 @@ fn select(left: &mut Left<'_>, alloc: Global) -> Result<Statement, Stop>
 
 // Reads whether names are listed, and which.
 #[tactic(auto, unfolding(crate::specs::Grammar::targets_at))]
-fn targets(left: &mut Left<'_>, alloc: Global) -> Result<(bool, Names), Stop>
-    ensures { Gives (λ t. (t, left.new)) result (targets_at left.old) }
+fn targets(left: &mut Left<'_, '_>, alloc: Global) -> Result<(bool, Names), Halt>
+    ensures { IsPart (λ t. (t, left.new)) result (targets_at left.old) }
 {
     if !left.stands_sign("(") {
         return Ok((false, Names::new(Vec::new(alloc))));
@@ -96,8 +96,8 @@ fn targets(left: &mut Left<'_>, alloc: Global) -> Result<(bool, Names), Stop>
 
 // Reads what follows INSERT.
 #[tactic(auto, unfolding(crate::specs::Grammar::insert_at))]
-fn insert(left: &mut Left<'_>, alloc: Global) -> Result<Statement, Stop>
-    ensures { Gives (λ s. (s, left.new)) result (insert_at left.old) }
+fn insert(left: &mut Left<'_, '_>, alloc: Global) -> Result<Statement, Halt>
+    ensures { IsPart (λ s. (s, left.new)) result (insert_at left.old) }
 {
     left.word("INTO")?;
     let table = left.name(alloc)?;
@@ -114,8 +114,8 @@ fn insert(left: &mut Left<'_>, alloc: Global) -> Result<Statement, Stop>
 
 // Reads what follows UPDATE.
 #[tactic(auto, unfolding(crate::specs::Grammar::update_at))]
-fn update(left: &mut Left<'_>, alloc: Global) -> Result<Statement, Stop>
-    ensures { Gives (λ s. (s, left.new)) result (update_at left.old) }
+fn update(left: &mut Left<'_, '_>, alloc: Global) -> Result<Statement, Halt>
+    ensures { IsPart (λ s. (s, left.new)) result (update_at left.old) }
 {
     let table = left.name(alloc)?;
     left.word("SET")?;
@@ -126,8 +126,8 @@ fn update(left: &mut Left<'_>, alloc: Global) -> Result<Statement, Stop>
 
 // Reads what follows DELETE.
 #[tactic(auto, unfolding(crate::specs::Grammar::delete_at))]
-fn delete(left: &mut Left<'_>, alloc: Global) -> Result<Statement, Stop>
-    ensures { Gives (λ s. (s, left.new)) result (delete_at left.old) }
+fn delete(left: &mut Left<'_, '_>, alloc: Global) -> Result<Statement, Halt>
+    ensures { IsPart (λ s. (s, left.new)) result (delete_at left.old) }
 {
     let (table, conds) = from(left, alloc)?;
     Ok(Statement::Delete { table, conds })
@@ -135,11 +135,11 @@ fn delete(left: &mut Left<'_>, alloc: Global) -> Result<Statement, Stop>
 
 /// Reads one statement from the front of some tokens, and leaves what follows it.
 #[tactic(auto, unfolding(crate::specs::Grammar::statement_at))]
-pub fn read_statement(left: &mut Left<'_>, alloc: Global) -> Result<Statement, Stop>
-    ensures { Gives (λ s. (s, left.new)) result (statement_at left.old) }
+pub fn read_statement(left: &mut Left<'_, '_>, alloc: Global) -> Result<Statement, Halt>
+    ensures { IsPart (λ s. (s, left.new)) result (statement_at left.old) }
 {
     let [first, ..] = left.tokens() else {
-        return Err(Stop::Ends);
+        return Err(Halt::Ends);
     };
     if is_word("SELECT", first) {
         left.pass();
@@ -154,6 +154,6 @@ pub fn read_statement(left: &mut Left<'_>, alloc: Global) -> Result<Statement, S
         left.pass();
         delete(left, alloc)
     } else {
-        Err(left.stop())
+        Err(left.halt())
     }
 }

@@ -25,6 +25,7 @@ pub fn is_word(word: &str, token: &Lexeme<'_>) -> bool
     matches!(token.kind(), TokenKind::Word) && agree(token.text(), word)
 }
 
+/// Whether a token is this sign.
 #[tactic(auto, unfolding(spe_model::specs::Definition::is_sign))]
 pub fn is_sign(sign: &str, token: &Lexeme<'_>) -> bool
     ensures { result ≡ is_sign sign.now token.now }

@@ -14,7 +14,7 @@ use Rattle.spe_recover.specs.Heads.{HaveLengths}
 use Rattle.spe_recover.specs.Rule.{Does}
 use Rattle.spe_recover.specs.Restored.{StaysFrom}
 use Rattle.spe_recover.specs.Cuts.{AddsCut, MakesCut}
-use Rattle.spe_recover.specs.Told.{WhereTold}
+use Rattle.spe_recover.specs.Told.{IfTold}
 use Rattle.spe_recover.proofs.CutLemmas.{HasLeft, left_first, left_next, left_broken}
 use Rattle.spe_recover.proofs.RestoreLemmas.{Adds-nothing, Adds-append, file_stays, present_after}
 
@@ -51,7 +51,7 @@ look_none content id all looked = sym (any_length-none content id (16 - id) (ome
 
 -- how long a journal was that stayed
 pub length_now : (first now : Option History) (id : ℕ) (heads : List JournalHead) (head : JournalHead) → slice_get heads id ≡ Some head → StaysFrom id first now
-    → WhereTold first (HaveLengths heads) → WhereTold now (λ content. head.length ≡ length (journal_of content id))
+    → IfTold first (HaveLengths heads) → IfTold now (λ content. head.length ≡ length (journal_of content id))
 length_now None None id heads head is stays known = tt
 length_now None (Some k) id heads head is stays known = absurd cc
 length_now (Some h) None id heads head is stays known = absurd stays
@@ -66,7 +66,7 @@ cut_one content id = by_test (has_length content id)
     by_test true = refl
     by_test false = refl
 
-pub cut_nothing : (told : Option History) (id n : ℕ) → n ≡ 0 → WhereTold told (λ content. n ≡ length (journal_of content id))
+pub cut_nothing : (told : Option History) (id n : ℕ) → n ≡ 0 → IfTold told (λ content. n ≡ length (journal_of content id))
     → Does told told (λ content. cuts_from content id 1) 0
 cut_nothing None id n nothing is = refl
 cut_nothing (Some h) id n nothing is =
@@ -74,7 +74,7 @@ cut_nothing (Some h) id n nothing is =
     let none : cuts_from (present h) id 1 ≡ [] = cut_one (present h) id ∙ rw short refl in
     (subst (Adds (Some h) (Some h)) (sym none) (Adds-nothing (Some h)), rw none refl)
 
-pub cut_some : (told new : Option History) (id n : ℕ) → n ≢ 0 → WhereTold told (λ content. n ≡ length (journal_of content id))
+pub cut_some : (told new : Option History) (id n : ℕ) → n ≢ 0 → IfTold told (λ content. n ≡ length (journal_of content id))
     → Adds told new (cut_of id ∷ []) → Does told new (λ content. cuts_from content id 1) 1
 cut_some None new id n some is adds = adds
 cut_some (Some h) new id n some is adds =
@@ -159,7 +159,7 @@ uncut_none (Some h) now id made all uncut stays =
     (done.0, omega (arith, done.1, ap length none))
 
 -- a journal's cut broke off
-pub cut_broken : (told new : Option History) (id n : ℕ) → n ≢ 0 → WhereTold told (λ content. n ≡ length (journal_of content id))
+pub cut_broken : (told new : Option History) (id n : ℕ) → n ≢ 0 → IfTold told (λ content. n ≡ length (journal_of content id))
     → MakesCut told new (λ content. cut_of id ∷ []) → MakesCut told new (λ content. cuts_from content id 1)
 cut_broken None new id n some is cut = tt
 cut_broken (Some h) new id n some is cut =
@@ -169,7 +169,7 @@ cut_broken (Some h) new id n some is cut =
 
 -- the cuts of the journals from one on are left
 abbrev pub HasCutsLeft : ℕ → Option History → Option History → Type 0
-HasCutsLeft id first now = WhereTold first (λ content. HasLeft first now (cuts_from content 0 16) (cuts_from content id (16 - id)))
+HasCutsLeft id first now = IfTold first (λ content. HasLeft first now (cuts_from content 0 16) (cuts_from content id (16 - id)))
 
 cuts_step : (content : Content) (id : ℕ) → id < 16 → cuts_from content id (16 - id) ≡ cuts_from content id 1 ++ cuts_from content (id + 1) (16 - (id + 1))
 cuts_step content id few =

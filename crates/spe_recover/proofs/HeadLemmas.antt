@@ -20,7 +20,7 @@ use Rattle.spe_recover.specs.declared.heads.OtherSize as others
 use Rattle.spe_model.specs.Rollback.{any_length}
 use Rattle.spe_recover.specs.Heads.{names_other, other_from, IsOther, IsHead, AreHeads, HaveLengths}
 use Rattle.spe_recover.specs.Restored.{Stays}
-use Rattle.spe_recover.specs.Told.{WhereTold}
+use Rattle.spe_recover.specs.Told.{IfTold}
 use Rattle.spe_recover.proofs.RestoreLemmas.{get_set}
 
 -- the bytes that were there, without the zeros behind them
@@ -150,20 +150,20 @@ pub searched_none : (content : Content) (page_size id : ℕ) → 16 ≤ id → I
 searched_none content page_size id all before = sym before ∙ other_from-none content page_size id all
 
 -- what is so of each content is so of the one that is told
-pub told_map : (told : Option History) (P Q : Content → Type 0) → ((content : Content) → P content → Q content) → WhereTold told P → WhereTold told Q
+pub told_map : (told : Option History) (P Q : Content → Type 0) → ((content : Content) → P content → Q content) → IfTold told P → IfTold told Q
 told_map None P Q step holds = tt
 told_map (Some h) P Q step holds = step (present h) holds
 
 -- one head of several
 pub told_one : (told : Option History) (page_size id : ℕ) (heads : List JournalHead) (head : JournalHead) → slice_get heads id ≡ Some head
-    → WhereTold told (λ content. AreHeads content page_size heads) → WhereTold told (λ content. IsHead content page_size id head)
+    → IfTold told (λ content. AreHeads content page_size heads) → IfTold told (λ content. IsHead content page_size id head)
 told_one told page_size id heads head is known =
     told_map told (λ content. AreHeads content page_size heads) (λ content. IsHead content page_size id head) (λ content all. all id head is) known
 
-pub told_head : (told : Option History) (page_size id length_of : ℕ) (kind : JournalKind) → WhereTold told (λ content. kind_of page_size (journal_of content id) ≡ kind)
-    → WhereTold told (λ content. hot_records page_size (journal_of content id) ≡ saved_under kind page_size (drop 512 (journal_of content id)))
-    → WhereTold told (λ content. length_of ≡ length (journal_of content id))
-    → WhereTold told (λ content. IsHead content page_size id (record { kind = kind; length = length_of }))
+pub told_head : (told : Option History) (page_size id length_of : ℕ) (kind : JournalKind) → IfTold told (λ content. kind_of page_size (journal_of content id) ≡ kind)
+    → IfTold told (λ content. hot_records page_size (journal_of content id) ≡ saved_under kind page_size (drop 512 (journal_of content id)))
+    → IfTold told (λ content. length_of ≡ length (journal_of content id))
+    → IfTold told (λ content. IsHead content page_size id (record { kind = kind; length = length_of }))
 told_head None page_size id length_of kind says saves long = tt
 told_head (Some h) page_size id length_of kind says saves long = record { kind = says; saves = saves; length = long }
 
@@ -171,7 +171,7 @@ told_head (Some h) page_size id length_of kind says saves long = record { kind =
 abbrev pub AreFirst : (page_size id : ℕ) → List JournalHead → Content → Type 0
 AreFirst page_size id heads content = (i : ℕ) (head : JournalHead) → i < id → slice_get heads i ≡ Some head → IsHead content page_size i head
 
-pub heads_first : (told : Option History) (page_size : ℕ) (heads : List JournalHead) → WhereTold told (AreFirst page_size 0 heads)
+pub heads_first : (told : Option History) (page_size : ℕ) (heads : List JournalHead) → IfTold told (AreFirst page_size 0 heads)
 heads_first None page_size heads = tt
 heads_first (Some h) page_size heads = λ i head below is. absurd (omega arith)
 
@@ -180,8 +180,8 @@ get_same [] i x y is = absurd cc
 get_same (z ∷ zs) zero x y is = cc
 get_same (z ∷ zs) (suc i) x y is = get_same zs i x y is
 
-pub heads_turn : (told : Option History) (page_size id : ℕ) (heads : List JournalHead) (next : JournalHead) → WhereTold told (λ content. IsHead content page_size id next)
-    → WhereTold told (AreFirst page_size id heads) → WhereTold told (AreFirst page_size (id + 1) (slice_set heads id next))
+pub heads_turn : (told : Option History) (page_size id : ℕ) (heads : List JournalHead) (next : JournalHead) → IfTold told (λ content. IsHead content page_size id next)
+    → IfTold told (AreFirst page_size id heads) → IfTold told (AreFirst page_size (id + 1) (slice_set heads id next))
 heads_turn None page_size id heads next one before = tt
 heads_turn (Some h) page_size id heads next one before = λ i head below is. ⊎_elim
     (λ (early : i < id). before i head early (sym (get_set heads id i next (omega arith)) ∙ is))
@@ -192,27 +192,27 @@ heads_turn (Some h) page_size id heads next one before = λ i head below is. ⊎
     (cases_lt i id)
 
 pub heads_all : (told : Option History) (page_size id : ℕ) (heads : List JournalHead) → length heads ≡ 16 → 16 ≤ id
-    → WhereTold told (AreFirst page_size id heads) → WhereTold told (λ content. AreHeads content page_size heads)
+    → IfTold told (AreFirst page_size id heads) → IfTold told (λ content. AreHeads content page_size heads)
 heads_all None page_size id heads long all known = tt
 heads_all (Some h) page_size id heads long all known = λ i head is. known i head (omega (arith, slice_get_within heads i head is)) is
 
 pub other_told : (told : Option History) (page_size : ℕ) (heads : List JournalHead) (found other : Option others.OtherSize) → found ≡ other
     → ((content : Content) (page_size : ℕ) → AreHeads content page_size heads → IsOther content page_size found)
-    → WhereTold told (λ content. AreHeads content page_size heads) → WhereTold told (λ content. IsOther content page_size other)
+    → IfTold told (λ content. AreHeads content page_size heads) → IfTold told (λ content. IsOther content page_size other)
 other_told told page_size heads found other is finds known =
     told_map told (λ content. AreHeads content page_size heads) (λ content. IsOther content page_size other)
     (λ content all. subst (λ (o : Option others.OtherSize). IsOther content page_size o) is (finds content page_size all)) known
 
 pub any_told : (told : Option History) (page_size : ℕ) (heads : List JournalHead) (found any : Bool) → found ≡ any
     → ((content : Content) → HaveLengths heads content → found ≡ any_length content 0 16)
-    → WhereTold told (λ content. AreHeads content page_size heads) → WhereTold told (λ content. any ≡ any_length content 0 16)
+    → IfTold told (λ content. AreHeads content page_size heads) → IfTold told (λ content. any ≡ any_length content 0 16)
 any_told told page_size heads found any is finds known =
     told_map told (λ content. AreHeads content page_size heads) (λ content. any ≡ any_length content 0 16)
     (λ content all. sym is ∙ finds content (λ id head at. (all id head at).length)) known
 
 -- how long the journals were that stayed
 pub lengths_now : (first now : Option History) (page_size : ℕ) (heads : List JournalHead) → Stays first now
-    → WhereTold first (λ content. AreHeads content page_size heads) → WhereTold now (HaveLengths heads)
+    → IfTold first (λ content. AreHeads content page_size heads) → IfTold now (HaveLengths heads)
 lengths_now None None page_size heads stays known = tt
 lengths_now None (Some k) page_size heads stays known = absurd cc
 lengths_now (Some h) None page_size heads stays known = absurd stays

@@ -17,8 +17,8 @@ use Rattle.spe_recover.specs.declared.heads.JournalHead.{JournalHead}
 use Rattle.spe_recover.specs.Heads.{AreHeads, IsOther, other_from}
 use Rattle.spe_recover.specs.Seen.{IsScanned}
 use Rattle.spe_recover.specs.Survey.{IsOfFiles, Surveys, IsSurvey, hot_outcome, sized_outcome}
-use Rattle.spe_recover.specs.Known.{Answers, IsFront, IsKnown, IsRefused}
-use Rattle.spe_recover.specs.Told.{WhereTold}
+use Rattle.spe_recover.specs.Known.{Tells, IsFront, IsKnown, IsRefused}
+use Rattle.spe_recover.specs.Told.{IfTold}
 
 abbrev Outcome : Type 0
 Outcome = Result (List (List ℕ)) RecoverFault
@@ -42,9 +42,9 @@ is_refused (refusals.ShortFile pages bytes) outcome plain is = is
 is_refused refusals.NotPrepared outcome plain is = absurd plain
 is_refused refusals.Memory outcome plain is = tt
 
-pub refuses_other : (told : Option History) (page_size : ℕ) (front : List ℕ) (other : OtherSize) → WhereTold told (IsFront page_size front)
-    → WhereTold told (λ content. IsOther content page_size (Some other))
-    → WhereTold told (λ content. sized_outcome content ≡ Err (refusals.JournalPage other.id other.size))
+pub refuses_other : (told : Option History) (page_size : ℕ) (front : List ℕ) (other : OtherSize) → IfTold told (IsFront page_size front)
+    → IfTold told (λ content. IsOther content page_size (Some other))
+    → IfTold told (λ content. sized_outcome content ≡ Err (refusals.JournalPage other.id other.size))
 refuses_other None page_size front other base found = tt
 refuses_other (Some h) page_size front other base found =
     sized_by (present h) page_size base.paged (Some other.id) found.first ∙ ap (λ (n : ℕ). Err (refusals.JournalPage other.id n)) found.named
@@ -55,10 +55,10 @@ Surveyed page_size size front seen result =
     (content : Content) → page_size ≡ file_page_size content → size ≡ length (bytes_of content Database)
     → IsScanned content page_size seen → front ≡ take 100 (bytes_of content Database) → Surveys content result (hot_outcome content)
 
-pub survey_ok : (told : Option History) (page_size size : ℕ) (front : List ℕ) (seen : Seen) (heads : List JournalHead) (survey : Survey) → WhereTold told (IsFront page_size front)
-    → WhereTold told (λ content. AreHeads content page_size heads) → WhereTold told (λ content. IsOther content page_size None) → WhereTold told (λ content. IsScanned content page_size seen)
-    → WhereTold told (λ content. size ≡ length (bytes_of content Database)) → Surveyed page_size size front seen (Ok survey)
-    → WhereTold told (λ content. IsKnown content (record { survey = survey; seen = seen; heads = heads }) (sized_outcome content))
+pub survey_ok : (told : Option History) (page_size size : ℕ) (front : List ℕ) (seen : Seen) (heads : List JournalHead) (survey : Survey) → IfTold told (IsFront page_size front)
+    → IfTold told (λ content. AreHeads content page_size heads) → IfTold told (λ content. IsOther content page_size None) → IfTold told (λ content. IsScanned content page_size seen)
+    → IfTold told (λ content. size ≡ length (bytes_of content Database)) → Surveyed page_size size front seen (Ok survey)
+    → IfTold told (λ content. IsKnown content (record { survey = survey; seen = seen; heads = heads }) (sized_outcome content))
 survey_ok None page_size size front seen heads survey base known other scanned sized surveyed = tt
 survey_ok (Some h) page_size size front seen heads survey base known other scanned sized surveyed =
     let found : IsSurvey (present h) survey (hot_outcome (present h)) = surveyed (present h) base.paged sized scanned base.first in
@@ -70,10 +70,10 @@ survey_ok (Some h) page_size size front seen heads survey base known other scann
       heads = subst (λ (n : ℕ). AreHeads (present h) n heads) pages known;
     }
 
-pub survey_err : (told : Option History) (page_size size : ℕ) (front : List ℕ) (seen : Seen) (fault : RecoverFault) → WhereTold told (IsFront page_size front)
-    → WhereTold told (λ content. IsOther content page_size None) → WhereTold told (λ content. IsScanned content page_size seen)
-    → WhereTold told (λ content. size ≡ length (bytes_of content Database)) → Surveyed page_size size front seen (Err fault) → IsOfFiles fault
-    → WhereTold told (λ content. IsRefused fault (sized_outcome content))
+pub survey_err : (told : Option History) (page_size size : ℕ) (front : List ℕ) (seen : Seen) (fault : RecoverFault) → IfTold told (IsFront page_size front)
+    → IfTold told (λ content. IsOther content page_size None) → IfTold told (λ content. IsScanned content page_size seen)
+    → IfTold told (λ content. size ≡ length (bytes_of content Database)) → Surveyed page_size size front seen (Err fault) → IsOfFiles fault
+    → IfTold told (λ content. IsRefused fault (sized_outcome content))
 survey_err None page_size size front seen fault base other scanned sized surveyed plain = tt
 survey_err (Some h) page_size size front seen fault base other scanned sized surveyed plain =
     is_refused fault (sized_outcome (present h)) plain
@@ -102,22 +102,22 @@ unfolding sized_outcome
 sized_is content = refl
 
 pub find_sized : (told : Option History) (n : ℕ) (front : List ℕ) (result : Result Known RecoverFault)
-    → WhereTold told (λ content. take n front ≡ take 100 (bytes_of content Database)) → front_fault_of (take n front) ≡ None
-    → WhereTold told (λ content. Answers content result (sized_outcome content)) → WhereTold told (λ content. Answers content result (recovered content))
+    → IfTold told (λ content. take n front ≡ take 100 (bytes_of content Database)) → front_fault_of (take n front) ≡ None
+    → IfTold told (λ content. Tells content result (sized_outcome content)) → IfTold told (λ content. Tells content result (recovered content))
 find_sized None n front result is none answers = tt
 find_sized (Some h) n front result is none answers =
     let same : sized_outcome (present h) ≡ recovered (present h) = sym (front_by (present h) (take n front) None is none ∙ sized_is (present h)) in
-    subst (λ (outcome : Outcome). Answers (present h) result outcome) same answers
+    subst (λ (outcome : Outcome). Tells (present h) result outcome) same answers
 
 pub find_refused : (told : Option History) (n : ℕ) (front : List ℕ) (fault : HeaderFault)
-    → WhereTold told (λ content. take n front ≡ take 100 (bytes_of content Database)) → front_fault_of (take n front) ≡ Some fault
-    → WhereTold told (λ content. recovered content ≡ Err (refusals.Header fault))
+    → IfTold told (λ content. take n front ≡ take 100 (bytes_of content Database)) → front_fault_of (take n front) ≡ Some fault
+    → IfTold told (λ content. recovered content ≡ Err (refusals.Header fault))
 find_refused None n front fault is some = tt
 find_refused (Some h) n front fault is some = front_by (present h) (take n front) (Some fault) is some
 
 pub find_front : (told : Option History) (n page_size : ℕ) (front : List ℕ) → length front ≡ 100 → 100 ≤ length (take n front)
-    → WhereTold told (λ content. take n front ≡ take 100 (bytes_of content Database)) → page_size ≡ page_size_at (take n front)
-    → WhereTold told (IsFront page_size front)
+    → IfTold told (λ content. take n front ≡ take 100 (bytes_of content Database)) → page_size ≡ page_size_at (take n front)
+    → IfTold told (IsFront page_size front)
 find_front None n page_size front long whole is paged = tt
 find_front (Some h) n page_size front long whole is paged =
     let all : take n front ≡ front = take_all n front (omega (arith, length-take n front)) in

@@ -8,7 +8,7 @@ use Rattle.spe_model.specs.Trace.{History, present}
 use Rattle.spe_journal.specs.Saved.{saved_in, SavesFirst}
 use Rattle.spe_recover.specs.Cuts.{AddsCut, BreaksFirst, MakesCut}
 use Rattle.spe_recover.specs.Restored.{Holders, Restored, RestoresFirst, Stays, due_after, is_due}
-use Rattle.spe_recover.specs.Told.{WhereTold}
+use Rattle.spe_recover.specs.Told.{IfTold}
 use Rattle.spe_recover.proofs.CutLemmas.{HasLeft, left_first, left_next, left_stopped, left_broken}
 use Rattle.spe_recover.proofs.RestoreLemmas.{restores-append, restores-parts, told_before}
 use Rattle.spe_recover.proofs.ScanLemmas.{IsPiece, piece_joined}
@@ -20,7 +20,7 @@ HasRecordsLeft id nonce page_size pages at first now before between content = Ha
     (restores page_size (is_due before pages) (saved_in nonce page_size (drop 512 (journal_of content id))))
     (restores page_size (is_due between pages) (saved_in nonce page_size (drop at (journal_of content id))))
 
-pub records_first : (told : Option History) (id nonce page_size pages : ℕ) (holders : Holders) → WhereTold told (HasRecordsLeft id nonce page_size pages 512 told told holders holders)
+pub records_first : (told : Option History) (id nonce page_size pages : ℕ) (holders : Holders) → IfTold told (HasRecordsLeft id nonce page_size pages 512 told told holders holders)
 records_first None id nonce page_size pages holders = tt
 records_first (Some h) id nonce page_size pages holders = left_first (Some h) (restores page_size (is_due holders pages) (saved_in nonce page_size (drop 512 (journal_of (present h) id))))
 
@@ -31,10 +31,10 @@ saved_step journal piece nonce page_size at size saved is first = ap (saved_in n
 
 pub records_turn : (told now next : Option History) (id nonce page_size pages at left end size : ℕ) (piece : List ℕ) (before between later : Holders) (some : ℕ)
     → 512 ≤ at → at + left ≡ 512 + (end - 512) → 0 < size → size ≤ left
-    → WhereTold told (λ content. end ≡ length (journal_of content id)) → Stays told now
-    → WhereTold now (IsPiece id at size piece) → RestoresFirst nonce page_size pages piece now next between later some
-    → WhereTold told (HasRecordsLeft id nonce page_size pages at told now before between)
-    → WhereTold told (HasRecordsLeft id nonce page_size pages (at + size) told next before later)
+    → IfTold told (λ content. end ≡ length (journal_of content id)) → Stays told now
+    → IfTold now (IsPiece id at size piece) → RestoresFirst nonce page_size pages piece now next between later some
+    → IfTold told (HasRecordsLeft id nonce page_size pages at told now before between)
+    → IfTold told (HasRecordsLeft id nonce page_size pages (at + size) told next before later)
 records_turn None now next id nonce page_size pages at left end size piece before between later some from reach above enough whole stays is one begun = tt
 records_turn (Some h) now next id nonce page_size pages at left end size piece before between later some from reach above enough whole stays is one begun =
     let journal = journal_of (present h) id in
@@ -48,9 +48,9 @@ records_turn (Some h) now next id nonce page_size pages at left end size piece b
 
 pub records_broken : (told now next : Option History) (id nonce page_size pages at left end size : ℕ) (piece : List ℕ) (before between : Holders)
     → 512 ≤ at → at + left ≡ 512 + (end - 512) → 0 < size → size ≤ left
-    → WhereTold told (λ content. end ≡ length (journal_of content id)) → Stays told now
-    → WhereTold now (IsPiece id at size piece) → WhereTold now (λ content. BreaksFirst nonce page_size pages piece now next between)
-    → WhereTold told (HasRecordsLeft id nonce page_size pages at told now before between)
+    → IfTold told (λ content. end ≡ length (journal_of content id)) → Stays told now
+    → IfTold now (IsPiece id at size piece) → IfTold now (λ content. BreaksFirst nonce page_size pages piece now next between)
+    → IfTold told (HasRecordsLeft id nonce page_size pages at told now before between)
     → MakesCut told next (λ content. restores page_size (is_due before pages) (saved_in nonce page_size (drop 512 (journal_of content id))))
 records_broken None now next id nonce page_size pages at left end size piece before between from reach above enough whole stays is breaks begun = tt
 records_broken (Some h) now next id nonce page_size pages at left end size piece before between from reach above enough whole stays is breaks begun =
@@ -66,7 +66,7 @@ records_broken (Some h) now next id nonce page_size pages at left end size piece
     one.cut begun
 
 pub records_stopped : (told now : Option History) (id nonce page_size pages at : ℕ) (before between : Holders)
-    → WhereTold told (HasRecordsLeft id nonce page_size pages at told now before between)
+    → IfTold told (HasRecordsLeft id nonce page_size pages at told now before between)
     → MakesCut told now (λ content. restores page_size (is_due before pages) (saved_in nonce page_size (drop 512 (journal_of content id))))
 records_stopped None now id nonce page_size pages at before between begun = tt
 records_stopped (Some h) now id nonce page_size pages at before between begun = left_stopped (Some h) now _ _ begun
@@ -77,14 +77,14 @@ HasJournalsLeft page_size pages id first now before between content = HasLeft fi
     (restores page_size (is_due before pages) (hot_from content page_size 0 16))
     (restores page_size (is_due between pages) (hot_from content page_size id (16 - id)))
 
-pub journals_first : (told : Option History) (page_size pages : ℕ) (holders : Holders) → WhereTold told (HasJournalsLeft page_size pages 0 told told holders holders)
+pub journals_first : (told : Option History) (page_size pages : ℕ) (holders : Holders) → IfTold told (HasJournalsLeft page_size pages 0 told told holders holders)
 journals_first None page_size pages holders = tt
 journals_first (Some h) page_size pages holders = left_first (Some h) (restores page_size (is_due holders pages) (hot_from (present h) page_size 0 16))
 
 pub journals_turn : (told now next : Option History) (page_size pages id : ℕ) (before between later : Holders) (some : ℕ) → id < 16 → Stays told now
-    → WhereTold now (λ content. Restored page_size pages (hot_records page_size (journal_of content id)) now next between later some)
-    → WhereTold told (HasJournalsLeft page_size pages id told now before between)
-    → WhereTold told (HasJournalsLeft page_size pages (id + 1) told next before later)
+    → IfTold now (λ content. Restored page_size pages (hot_records page_size (journal_of content id)) now next between later some)
+    → IfTold told (HasJournalsLeft page_size pages id told now before between)
+    → IfTold told (HasJournalsLeft page_size pages (id + 1) told next before later)
 journals_turn None now next page_size pages id before between later some few stays one begun = tt
 journals_turn (Some h) now next page_size pages id before between later some few stays one begun =
     let content = present h in
@@ -98,7 +98,7 @@ journals_turn (Some h) now next page_size pages id before between later some few
 
 pub journals_broken : (told now next : Option History) (page_size pages id : ℕ) (before between : Holders) → id < 16 → Stays told now
     → MakesCut now next (λ content. restores page_size (is_due between pages) (hot_records page_size (journal_of content id)))
-    → WhereTold told (HasJournalsLeft page_size pages id told now before between)
+    → IfTold told (HasJournalsLeft page_size pages id told now before between)
     → MakesCut told next (λ content. restores page_size (is_due before pages) (hot_from content page_size 0 16))
 journals_broken None now next page_size pages id before between few stays cut begun = tt
 journals_broken (Some h) now next page_size pages id before between few stays cut begun =

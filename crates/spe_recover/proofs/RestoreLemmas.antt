@@ -14,7 +14,7 @@ use Rattle.spe_model.specs.Trace.Operation.{Write, Cut}
 use Rattle.spe_disk.specs.Told.{Adds}
 use Rattle.spe_model.specs.Rollback.{write_of, without, firsts, restores}
 use Rattle.spe_recover.specs.Restored.{Holders, is_due, due_after, Restored, Stays}
-use Rattle.spe_recover.specs.Told.{WhereTold}
+use Rattle.spe_recover.specs.Told.{IfTold}
 
 -- operations one after the other
 pub after-append : (content : Content) (xs ys : List Operation) → after content (xs ++ ys) ≡ after (after content xs) ys
@@ -81,13 +81,13 @@ Stays-trans (Some h) (Some k) None a b = absurd b
 Stays-trans (Some h) (Some k) (Some l) a b = λ id. b id ∙ a id
 
 -- what is so of a journal now was so at first
-pub told_before : (old now : Option History) (id : ℕ) (P : List ℕ → Type 0) → Stays old now → WhereTold now (λ content. P (journal_of content id)) → WhereTold old (λ content. P (journal_of content id))
+pub told_before : (old now : Option History) (id : ℕ) (P : List ℕ → Type 0) → Stays old now → IfTold now (λ content. P (journal_of content id)) → IfTold old (λ content. P (journal_of content id))
 told_before None now id P stays holds = tt
 told_before (Some h) None id P stays holds = absurd stays
 told_before (Some h) (Some k) id P stays holds = subst P (stays id) holds
 
 -- what was so of a journal is so of it now
-pub told_now : (old now : Option History) (id : ℕ) (P : List ℕ → Type 0) → Stays old now → WhereTold old (λ content. P (journal_of content id)) → WhereTold now (λ content. P (journal_of content id))
+pub told_now : (old now : Option History) (id : ℕ) (P : List ℕ → Type 0) → Stays old now → IfTold old (λ content. P (journal_of content id)) → IfTold now (λ content. P (journal_of content id))
 told_now None None id P stays holds = tt
 told_now None (Some k) id P stays holds = absurd cc
 told_now (Some h) None id P stays holds = absurd stays

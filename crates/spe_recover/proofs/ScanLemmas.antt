@@ -8,7 +8,7 @@ use Rattle.spe_model.specs.Recovery.{journal_of}
 use Rattle.spe_model.specs.Trace.{History, present}
 use Rattle.spe_journal.specs.Saved.{saved_in}
 use Rattle.spe_recover.specs.Seen.{Entry, Notes, NotesPiece, IsSeen, IsScanned, entries_of, entries_from, rest_after}
-use Rattle.spe_recover.specs.Told.{WhereTold}
+use Rattle.spe_recover.specs.Told.{IfTold}
 use Rattle.spe_recover.specs.declared.seen.Seen.{Seen}
 use Rattle.spe_recover.proofs.SeenLemmas.{Notes-nothing, Notes-append}
 
@@ -50,19 +50,19 @@ left_next id nonce page_size at size piece first now next content is noted befor
 
 pub left_turn : (told : Option History) (id nonce page_size at left end size : ℕ) (piece : List ℕ) (first now next : Seen)
     → 512 ≤ at → at + left ≡ 512 + (end - 512) → 0 < size → size ≤ left
-    → WhereTold told (λ content. end ≡ length (journal_of content id))
-    → WhereTold told (IsPiece id at size piece) → NotesPiece id nonce page_size piece now next true
-    → WhereTold told (IsLeft id nonce page_size at first now) → WhereTold told (IsLeft id nonce page_size (at + size) first next)
+    → IfTold told (λ content. end ≡ length (journal_of content id))
+    → IfTold told (IsPiece id at size piece) → NotesPiece id nonce page_size piece now next true
+    → IfTold told (IsLeft id nonce page_size at first now) → IfTold told (IsLeft id nonce page_size (at + size) first next)
 left_turn None id nonce page_size at left end size piece first now next from reach some enough whole is noted before = tt
 left_turn (Some h) id nonce page_size at left end size piece first now next from reach some enough whole is noted before =
     left_next id nonce page_size at size piece first now next (present h) (is (omega (arith, whole))) noted before
 
 pub left_ended : (told : Option History) (id nonce page_size at left end size : ℕ) (piece : List ℕ) (first now next : Seen)
     → 512 ≤ at → at + left ≡ 512 + (end - 512) → 0 < size → size ≤ left
-    → WhereTold told (λ content. end ≡ length (journal_of content id))
-    → WhereTold told (IsPiece id at size piece) → NotesPiece id nonce page_size piece now next false
-    → WhereTold told (IsLeft id nonce page_size at first now)
-    → WhereTold told (λ content. Notes (entries_of id (saved_in nonce page_size (drop 512 (journal_of content id)))) first next)
+    → IfTold told (λ content. end ≡ length (journal_of content id))
+    → IfTold told (IsPiece id at size piece) → NotesPiece id nonce page_size piece now next false
+    → IfTold told (IsLeft id nonce page_size at first now)
+    → IfTold told (λ content. Notes (entries_of id (saved_in nonce page_size (drop 512 (journal_of content id)))) first next)
 left_ended None id nonce page_size at left end size piece first now next from reach some enough whole is noted before = tt
 left_ended (Some h) id nonce page_size at left end size piece first now next from reach some enough whole is noted before =
     let journal = journal_of (present h) id in
@@ -73,9 +73,9 @@ left_ended (Some h) id nonce page_size at left end size piece first now next fro
 
 pub left_none : (told : Option History) (id nonce page_size at left end : ℕ) (first now : Seen)
     → 512 ≤ at → at + left ≡ 512 + (end - 512) → left < page_size + 8
-    → WhereTold told (λ content. end ≡ length (journal_of content id))
-    → WhereTold told (IsLeft id nonce page_size at first now)
-    → WhereTold told (λ content. Notes (entries_of id (saved_in nonce page_size (drop 512 (journal_of content id)))) first now)
+    → IfTold told (λ content. end ≡ length (journal_of content id))
+    → IfTold told (IsLeft id nonce page_size at first now)
+    → IfTold told (λ content. Notes (entries_of id (saved_in nonce page_size (drop 512 (journal_of content id)))) first now)
 left_none None id nonce page_size at left end first now from reach short whole before = tt
 left_none (Some h) id nonce page_size at left end first now from reach short whole before =
     let journal = journal_of (present h) id in
@@ -98,8 +98,8 @@ unfolding entries_from
 entries_from-none content page_size id count none = rw none refl
 
 pub journals_turn : (told : Option History) (page_size id : ℕ) (first now next : Seen) → id < 16
-    → WhereTold told (λ content. Notes (entries_of id (hot_records page_size (journal_of content id))) now next)
-    → WhereTold told (AreLeft page_size id first now) → WhereTold told (AreLeft page_size (id + 1) first next)
+    → IfTold told (λ content. Notes (entries_of id (hot_records page_size (journal_of content id))) now next)
+    → IfTold told (AreLeft page_size id first now) → IfTold told (AreLeft page_size (id + 1) first next)
 journals_turn None page_size id first now next some noted before = tt
 journals_turn (Some h) page_size id first now next some noted before = λ last rest.
     let same : 16 - id - 1 ≡ 16 - (id + 1) = omega arith in
@@ -111,13 +111,13 @@ journals_turn (Some h) page_size id first now next some noted before = λ last r
     (Notes-append (entries_of id (hot_records page_size (journal_of (present h) id))) (entries_from (present h) page_size (id + 1) (16 - (id + 1))) now next last noted rest))
 
 pub journals_none : (told : Option History) (page_size id : ℕ) (first now : Seen) → 16 ≤ id
-    → WhereTold told (AreLeft page_size id first now) → WhereTold told (λ content. Notes (entries_from content page_size 0 16) first now)
+    → IfTold told (AreLeft page_size id first now) → IfTold told (λ content. Notes (entries_from content page_size 0 16) first now)
 journals_none None page_size id first now all before = tt
 journals_none (Some h) page_size id first now all before =
     before now (subst (λ (es : List Entry). Notes es now now) (sym (entries_from-none (present h) page_size id (16 - id) (omega arith))) (Notes-nothing now))
 
 pub scanned : (told : Option History) (page_size : ℕ) (first seen : Seen) → IsSeen (λ p. []) first → first.rest ≡ None
-    → WhereTold told (λ content. Notes (entries_from content page_size 0 16) first seen) → WhereTold told (λ content. IsScanned content page_size seen)
+    → IfTold told (λ content. Notes (entries_from content page_size 0 16) first seen) → IfTold told (λ content. IsScanned content page_size seen)
 scanned None page_size first seen held nothing noted = tt
 scanned (Some h) page_size first seen held nothing noted =
     (noted.held (λ p. []) held, noted.rest ∙ ap (λ (rest : Option (List ℕ)). rest_after rest (entries_from (present h) page_size 0 16)) nothing)

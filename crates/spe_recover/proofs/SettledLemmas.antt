@@ -14,7 +14,7 @@ use Rattle.spe_crash.specs.Pages.{QuietIsWhole, RecoveredAreHeaded}
 use Rattle.spe_crash.specs.Rollback.{RollbackKeeps, RollbackIsCovered, RollbackEmpties, RollbackRestores}
 use Rattle.spe_recover.specs.Cuts.{MakesCut}
 use Rattle.spe_recover.specs.Recovered.{AreInFile, HasNoJournals, HasPages, rollback_of}
-use Rattle.spe_recover.specs.Told.{WhereBothTold, WhereTold}
+use Rattle.spe_recover.specs.Told.{IfBothTold, IfTold}
 use Rattle.spe_recover.specs.Written.{Makes}
 use Rattle.spe_recover.proofs.CutLemmas.{IsCut-trans}
 use Rattle.spe_recover.proofs.StopLemmas.{covered_by, keeps_by, left_empty, left_kept, left_restored}
@@ -59,24 +59,24 @@ found_so found content now pages headed whole recovers has sized reserved node i
     }
 
 settled_by : (old new : Option History) (found : Recovered) → RecoveredAreHeaded → QuietIsWhole
-    → WhereTold old (λ content. HasPages content found.pages) → WhereTold old (λ content. found.page_size ≡ file_page_size content)
-    → WhereTold old (λ content. found.reserved ≡ (recovered_header content).reserved) → WhereTold old (λ content. found.node ≡ node_of (recovered_header content))
-    → WhereBothTold old new (AreInFile found.pages)
-    → WhereTold old (λ content. WhereTold new HasNoJournals) → WhereBothTold old new (λ content now. recovered now ≡ recovered content)
-    → WhereBothTold old new (λ content now. (pages : List (List ℕ)) → recovered content ≡ Ok pages → IsFound found now pages)
+    → IfTold old (λ content. HasPages content found.pages) → IfTold old (λ content. found.page_size ≡ file_page_size content)
+    → IfTold old (λ content. found.reserved ≡ (recovered_header content).reserved) → IfTold old (λ content. found.node ≡ node_of (recovered_header content))
+    → IfBothTold old new (AreInFile found.pages)
+    → IfTold old (λ content. IfTold new HasNoJournals) → IfBothTold old new (λ content now. recovered now ≡ recovered content)
+    → IfBothTold old new (λ content now. (pages : List (List ℕ)) → recovered content ≡ Ok pages → IsFound found now pages)
 settled_by None new found headed whole has sized reserved node in_file quiet kept = tt
 settled_by (Some h) None found headed whole has sized reserved node in_file quiet kept = tt
 settled_by (Some h) (Some k) found headed whole has sized reserved node in_file quiet kept = λ pages recovers.
     found_so found (present h) (present k) pages headed whole recovers has sized reserved node in_file quiet kept
 
 pub left_settled : (old new : Option History) (result : Result Recovered RecoverFault) → RollbackKeeps → RollbackEmpties → RollbackRestores → RecoveredAreHeaded → QuietIsWhole
-    → IfOk result (λ found. WhereTold old (λ content. HasPages content found.pages))
-    → IfOk result (λ found. WhereTold old (λ content. found.page_size ≡ file_page_size content))
-    → IfOk result (λ found. WhereTold old (λ content. found.reserved ≡ (recovered_header content).reserved))
-    → IfOk result (λ found. WhereTold old (λ content. found.node ≡ node_of (recovered_header content)))
+    → IfOk result (λ found. IfTold old (λ content. HasPages content found.pages))
+    → IfOk result (λ found. IfTold old (λ content. found.page_size ≡ file_page_size content))
+    → IfOk result (λ found. IfTold old (λ content. found.reserved ≡ (recovered_header content).reserved))
+    → IfOk result (λ found. IfTold old (λ content. found.node ≡ node_of (recovered_header content)))
     → IfOk result (λ found. Makes old new (λ content. rule_of content found.pages) found.ops)
     → MakesCut old new rollback_of
-    → IfOk result (λ found. WhereBothTold old new (λ content now. (pages : List (List ℕ)) → recovered content ≡ Ok pages → IsFound found now pages))
+    → IfOk result (λ found. IfBothTold old new (λ content now. (pages : List (List ℕ)) → recovered content ≡ Ok pages → IsFound found now pages))
 left_settled old new (Err fault) keeps empties restores headed whole has sized reserved node made cut = tt
 left_settled old new (Ok found) keeps empties restores headed whole has sized reserved node made cut =
     settled_by old new found headed whole has sized reserved node

@@ -9,7 +9,7 @@ use Rattle.spe_model.specs.Trace.{Operation, History, IsCut, after, present}
 use Rattle.spe_crash.specs.Rollback.{RollbackKeeps, RollbackIsCovered, RollbackEmpties, RollbackRestores}
 use Rattle.spe_recover.specs.Cuts.{KeepsAtStops, MakesCut, WhereAdded}
 use Rattle.spe_recover.specs.Recovered.{AreInFile, HasNoJournals, HasPages, rollback_of, rollback_to}
-use Rattle.spe_recover.specs.Told.{WhereBothTold, WhereTold}
+use Rattle.spe_recover.specs.Told.{IfBothTold, IfTold}
 use Rattle.spe_recover.specs.Written.{Makes}
 use Rattle.spe_recover.proofs.CutLemmas.{IsCut-trans}
 use Rattle.spe_recover.proofs.RestoreLemmas.{Adds-nothing, present_after}
@@ -33,15 +33,15 @@ covered_by law content (Err fault) (o ∷ os) is part = absurd part
 some_same : {X : Type 0} {x y : X} → Some x ≡ Some y → x ≡ y
 some_same e = cc
 
-pub left_kept : (old new : Option History) → RollbackKeeps → MakesCut old new rollback_of → WhereBothTold old new (λ content now. recovered now ≡ recovered content)
+pub left_kept : (old new : Option History) → RollbackKeeps → MakesCut old new rollback_of → IfBothTold old new (λ content now. recovered now ≡ recovered content)
 left_kept None new law c = tt
 left_kept (Some h) None law c = tt
 left_kept (Some h) (Some k) law c =
     ap recovered (present_after h c.made k (some_same c.adds)) ∙ keeps_by law (present h) (recovered (present h)) c.made refl c.holds
 
 -- what holds once all was made
-pub left_restored : (old new : Option History) (pages count made : ℕ) → count ≡ pages → RollbackRestores → WhereTold old (λ content. HasPages content pages)
-    → Makes old new (λ content. rule_of content pages) made → WhereBothTold old new (AreInFile count)
+pub left_restored : (old new : Option History) (pages count made : ℕ) → count ≡ pages → RollbackRestores → IfTold old (λ content. HasPages content pages)
+    → Makes old new (λ content. rule_of content pages) made → IfBothTold old new (AreInFile count)
 left_restored None new pages count made same law found makes = tt
 left_restored (Some h) None pages count made same law found makes = tt
 left_restored (Some h) (Some k) pages count made same law found makes =
@@ -52,8 +52,8 @@ left_restored (Some h) (Some k) pages count made same law found makes =
     ∙ ap Ok
     (sym (subst (λ (n : ℕ). map (file_page (after content (rule_of content n))) (pages_to n) ≡ found.pages) found.counted (law content found.pages found.recovers))))
 
-pub left_empty : (old new : Option History) (pages made : ℕ) → RollbackEmpties → WhereTold old (λ content. HasPages content pages)
-    → Makes old new (λ content. rule_of content pages) made → WhereTold old (λ content. WhereTold new HasNoJournals)
+pub left_empty : (old new : Option History) (pages made : ℕ) → RollbackEmpties → IfTold old (λ content. HasPages content pages)
+    → Makes old new (λ content. rule_of content pages) made → IfTold old (λ content. IfTold new HasNoJournals)
 left_empty None new pages made law found makes = tt
 left_empty (Some h) None pages made law found makes = tt
 left_empty (Some h) (Some k) pages made law found makes =

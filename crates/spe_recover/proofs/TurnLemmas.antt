@@ -7,7 +7,7 @@ use Rattle.spe_model.specs.Recovery.{journal_of}
 use Rattle.spe_model.specs.Trace.{History, present}
 use Rattle.spe_journal.specs.Saved.{saved_in}
 use Rattle.spe_recover.specs.Restored.{Holders, Restored, RestoresFirst, RestoresNone, Stays}
-use Rattle.spe_recover.specs.Told.{WhereTold}
+use Rattle.spe_recover.specs.Told.{IfTold}
 use Rattle.spe_recover.proofs.ScanLemmas.{IsPiece, piece_joined, saved_in-short}
 use Rattle.spe_recover.proofs.RestoreLemmas.{Restored-nothing, Restored-append, told_before}
 
@@ -33,10 +33,10 @@ due_next id nonce page_size pages at size piece first now next before between la
 
 pub due_turn : (told now next : Option History) (id nonce page_size pages at left end size : ℕ) (piece : List ℕ) (before between later : Holders) (made some : ℕ)
     → 512 ≤ at → at + left ≡ 512 + (end - 512) → 0 < size → size ≤ left
-    → WhereTold told (λ content. end ≡ length (journal_of content id)) → Stays told now
-    → WhereTold now (IsPiece id at size piece) → RestoresFirst nonce page_size pages piece now next between later some
-    → WhereTold told (IsDue id nonce page_size pages at told now before between made)
-    → WhereTold told (IsDue id nonce page_size pages (at + size) told next before later (made + some))
+    → IfTold told (λ content. end ≡ length (journal_of content id)) → Stays told now
+    → IfTold now (IsPiece id at size piece) → RestoresFirst nonce page_size pages piece now next between later some
+    → IfTold told (IsDue id nonce page_size pages at told now before between made)
+    → IfTold told (IsDue id nonce page_size pages (at + size) told next before later (made + some))
 due_turn None now next id nonce page_size pages at left end size piece before between later made some from reach above enough whole stays is one earlier = tt
 due_turn (Some h) now next id nonce page_size pages at left end size piece before between later made some from reach above enough whole stays is one earlier =
     due_next id nonce page_size pages at size piece (Some h) now next before between later made some (present h)
@@ -44,10 +44,10 @@ due_turn (Some h) now next id nonce page_size pages at left end size piece befor
 
 pub due_ended : (told now next : Option History) (id nonce page_size pages at left end size : ℕ) (piece : List ℕ) (before between later : Holders) (made : ℕ)
     → 512 ≤ at → at + left ≡ 512 + (end - 512) → 0 < size → size ≤ left
-    → WhereTold told (λ content. end ≡ length (journal_of content id)) → Stays told now
-    → WhereTold now (IsPiece id at size piece) → RestoresNone nonce page_size piece now next between later
-    → WhereTold told (IsDue id nonce page_size pages at told now before between made)
-    → WhereTold told (λ content. Restored page_size pages (saved_in nonce page_size (drop 512 (journal_of content id))) told next before later made)
+    → IfTold told (λ content. end ≡ length (journal_of content id)) → Stays told now
+    → IfTold now (IsPiece id at size piece) → RestoresNone nonce page_size piece now next between later
+    → IfTold told (IsDue id nonce page_size pages at told now before between made)
+    → IfTold told (λ content. Restored page_size pages (saved_in nonce page_size (drop 512 (journal_of content id))) told next before later made)
 due_ended None now next id nonce page_size pages at left end size piece before between later made from reach above enough whole stays is ended earlier = tt
 due_ended (Some h) now next id nonce page_size pages at left end size piece before between later made from reach above enough whole stays is ended earlier =
     let journal = journal_of (present h) id in
@@ -64,9 +64,9 @@ due_ended (Some h) now next id nonce page_size pages at left end size piece befo
 
 pub due_none : (told now : Option History) (id nonce page_size pages at left end : ℕ) (before between : Holders) (made : ℕ)
     → 512 ≤ at → at + left ≡ 512 + (end - 512) → left < page_size + 8
-    → WhereTold told (λ content. end ≡ length (journal_of content id))
-    → WhereTold told (IsDue id nonce page_size pages at told now before between made)
-    → WhereTold told (λ content. Restored page_size pages (saved_in nonce page_size (drop 512 (journal_of content id))) told now before between made)
+    → IfTold told (λ content. end ≡ length (journal_of content id))
+    → IfTold told (IsDue id nonce page_size pages at told now before between made)
+    → IfTold told (λ content. Restored page_size pages (saved_in nonce page_size (drop 512 (journal_of content id))) told now before between made)
 due_none None now id nonce page_size pages at left end before between made from reach short whole earlier = tt
 due_none (Some h) now id nonce page_size pages at left end before between made from reach short whole earlier =
     let journal = journal_of (present h) id in
@@ -102,9 +102,9 @@ hot_from-none : (content : Content) (page_size id count : ℕ) → count ≡ 0 �
 hot_from-none content page_size id count none = rw none refl
 
 pub all_turn : (told now next : Option History) (page_size pages id : ℕ) (before between later : Holders) (made some : ℕ) → id < 16 → Stays told now
-    → WhereTold now (λ content. Restored page_size pages (hot_records page_size (journal_of content id)) now next between later some)
-    → WhereTold told (AreDue page_size pages id told now before between made)
-    → WhereTold told (AreDue page_size pages (id + 1) told next before later (made + some))
+    → IfTold now (λ content. Restored page_size pages (hot_records page_size (journal_of content id)) now next between later some)
+    → IfTold told (AreDue page_size pages id told now before between made)
+    → IfTold told (AreDue page_size pages (id + 1) told next before later (made + some))
 all_turn None now next page_size pages id before between later made some few stays one earlier = tt
 all_turn (Some h) now next page_size pages id before between later made some few stays one earlier = λ last after more rest.
     let content = present h in
@@ -118,8 +118,8 @@ all_turn (Some h) now next page_size pages id before between later made some few
     (earlier last after (some + more) (subst (λ (saved : List Saved). Restored page_size pages saved now last between after (some + more)) (sym step) both))
 
 pub all_none : (told now : Option History) (page_size pages id : ℕ) (before between : Holders) (made : ℕ) → 16 ≤ id
-    → WhereTold told (AreDue page_size pages id told now before between made)
-    → WhereTold told (λ content. Restored page_size pages (hot_from content page_size 0 16) told now before between made)
+    → IfTold told (AreDue page_size pages id told now before between made)
+    → IfTold told (λ content. Restored page_size pages (hot_from content page_size 0 16) told now before between made)
 all_none None now page_size pages id before between made all earlier = tt
 all_none (Some h) now page_size pages id before between made all earlier =
     let sum : made + 0 ≡ made = omega arith in

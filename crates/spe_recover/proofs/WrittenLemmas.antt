@@ -16,7 +16,7 @@ use Rattle.spe_recover.specs.Restored.{Holders, Restored, Stays, is_due}
 use Rattle.spe_model.specs.Rollback.{any_length, cuts_from, file_cut, firsts, restores, rule_of, without, write_of}
 use Rattle.spe_recover.specs.Cuts.{AddsCut, MakesCut}
 use Rattle.spe_recover.specs.Rule.{Does}
-use Rattle.spe_recover.specs.Told.{WhereTold}
+use Rattle.spe_recover.specs.Told.{IfTold}
 use Rattle.spe_recover.specs.Written.{IsReady, Makes, all_of}
 use Rattle.spe_recover.proofs.ClearLemmas.{cuts_from-next, cuts_from-none, cut_same}
 use Rattle.spe_recover.proofs.CutLemmas.{HasLeft, left_first, left_next, left_broken}
@@ -72,8 +72,8 @@ file_same survey holders content end ready ends =
     ∙ ap (λ (n : ℕ). file_cut (length (bytes_of content Database)) n) (ends ∙ ap (λ (n : ℕ). survey.pages * n) ready.paged)
 
 pub all_made : (told first second new : Option History) (survey : Survey) (before after : Holders) (restored cut cleared end : ℕ)
-    → WhereTold told (IsReady survey before)
-    → WhereTold told (λ content. Restored survey.page_size survey.pages (hot_from content survey.page_size 0 16) told first before after restored)
+    → IfTold told (IsReady survey before)
+    → IfTold told (λ content. Restored survey.page_size survey.pages (hot_from content survey.page_size 0 16) told first before after restored)
     → Stays told first → Does first second (λ content. file_cut survey.size end) cut → end ≡ survey.pages * survey.page_size → Stays first second
     → Does second new (λ content. cuts_from content 0 16) cleared
     → Makes told new (λ content. all_of content survey.pages) (restored + cut + cleared)
@@ -116,7 +116,7 @@ unfolding writes_of trim_of
 all_parts content pages = append_assoc (restores (file_page_size content) (λ p. nat_le p pages) (all_hot content)) (file_cut (length (bytes_of content Database)) (pages * file_page_size content)) (cuts_from content 0 16)
 
 -- it broke off within the writes
-pub restoring_stopped : (told new : Option History) (survey : Survey) (before : Holders) → WhereTold told (IsReady survey before)
+pub restoring_stopped : (told new : Option History) (survey : Survey) (before : Holders) → IfTold told (IsReady survey before)
     → MakesCut told new (λ content. restores survey.page_size (is_due before survey.pages) (hot_from content survey.page_size 0 16))
     → MakesCut told new (λ content. all_of content survey.pages)
 unfolding writes_of
@@ -139,8 +139,8 @@ after_restoring h first survey before after restored ready done =
 
 -- it broke off at the cut of the file
 pub cutting_stopped : (told first new : Option History) (survey : Survey) (before after : Holders) (restored end : ℕ)
-    → WhereTold told (IsReady survey before)
-    → WhereTold told (λ content. Restored survey.page_size survey.pages (hot_from content survey.page_size 0 16) told first before after restored)
+    → IfTold told (IsReady survey before)
+    → IfTold told (λ content. Restored survey.page_size survey.pages (hot_from content survey.page_size 0 16) told first before after restored)
     → Stays told first → MakesCut first new (λ content. file_cut survey.size end) → end ≡ survey.pages * survey.page_size
     → MakesCut told new (λ content. all_of content survey.pages)
 unfolding trim_of
@@ -153,8 +153,8 @@ cutting_stopped (Some h) (Some k) new survey before after restored end ready don
 
 -- it broke off within the cuts of the journals
 pub clearing_stopped : (told first second new : Option History) (survey : Survey) (before after : Holders) (restored cut end : ℕ)
-    → WhereTold told (IsReady survey before)
-    → WhereTold told (λ content. Restored survey.page_size survey.pages (hot_from content survey.page_size 0 16) told first before after restored)
+    → IfTold told (IsReady survey before)
+    → IfTold told (λ content. Restored survey.page_size survey.pages (hot_from content survey.page_size 0 16) told first before after restored)
     → Stays told first → Does first second (λ content. file_cut survey.size end) cut → end ≡ survey.pages * survey.page_size → Stays first second
     → MakesCut second new (λ content. cuts_from content 0 16)
     → MakesCut told new (λ content. all_of content survey.pages)
@@ -170,18 +170,18 @@ clearing_stopped (Some h) (Some k) (Some l) new survey before after restored cut
     (subst (AddsCut (Some l) new) cuts broken)
     (left_next (Some h) (Some k) (Some l) _ _ (trim_of content survey.pages) (cuts_from content 0 16) refl file (after_restoring h (Some k) survey before after restored ready done))
 
-pub none_made : (told : Option History) (pages : ℕ) → WhereTold told (λ content. false ≡ any_length content 0 16) → Makes told told (λ content. rule_of content pages) 0
+pub none_made : (told : Option History) (pages : ℕ) → IfTold told (λ content. false ≡ any_length content 0 16) → Makes told told (λ content. rule_of content pages) 0
 unfolding rule_of
 none_made None pages nothing = tt
 none_made (Some h) pages nothing = rw (← nothing) (record { adds = Adds-nothing (Some h); count = refl })
 
-pub some_made : (told new : Option History) (pages made : ℕ) → WhereTold told (λ content. true ≡ any_length content 0 16)
+pub some_made : (told new : Option History) (pages made : ℕ) → IfTold told (λ content. true ≡ any_length content 0 16)
     → Makes told new (λ content. all_of content pages) made → Makes told new (λ content. rule_of content pages) made
 unfolding rule_of
 some_made None new pages made some all = tt
 some_made (Some h) new pages made some all = rw (← some) all
 
-pub some_stopped : (told new : Option History) (pages : ℕ) → WhereTold told (λ content. true ≡ any_length content 0 16)
+pub some_stopped : (told new : Option History) (pages : ℕ) → IfTold told (λ content. true ≡ any_length content 0 16)
     → MakesCut told new (λ content. all_of content pages) → MakesCut told new (λ content. rule_of content pages)
 unfolding rule_of
 some_stopped None new pages some cut = tt

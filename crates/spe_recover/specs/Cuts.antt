@@ -8,7 +8,7 @@ use Rattle.spe_model.specs.Trace.{Operation, History, IsCut, after}
 use Rattle.spe_disk.specs.Told.{Adds}
 use Rattle.spe_journal.specs.Saved.{SavesFirst}
 use Rattle.spe_recover.specs.Restored.{Holders, is_due}
-use Rattle.spe_recover.specs.Told.{WhereTold}
+use Rattle.spe_recover.specs.Told.{IfTold}
 
 -- Some operations were added, and P holds of them.
 pub record AddsSome (old new : Option History) (P : List Operation → Type 0) : Type 0 where
@@ -18,7 +18,7 @@ pub record AddsSome (old new : Option History) (P : List Operation → Type 0) :
 
 -- P of the content before and of the operations that were added since, where the disk tells it
 abbrev pub WhereAdded : Option History → Option History → (Content → List Operation → Type 0) → Type 0
-WhereAdded old new P = WhereTold old (λ content. AddsSome old new (P content))
+WhereAdded old new P = IfTold old (λ content. AddsSome old new (P content))
 
 -- what a stop within these operations leaves was added
 abbrev pub AddsCut : Option History → Option History → List Operation → Type 0

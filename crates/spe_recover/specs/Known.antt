@@ -6,16 +6,16 @@ use Rattle.spe_model.specs.declared.recovery.RecoverFault.TheVariants as refusal
 use Rattle.spe_model.specs.Content.{Content, bytes_of}
 use Rattle.spe_model.specs.Faults.{Rose}
 use Rattle.spe_model.specs.Recovery.{file_page_size}
-use Rattle.spe_recover.specs.declared.stop.Stop.{Stop}
-use Rattle.spe_recover.specs.declared.stop.Stop.TheVariants.{Disk, Memory}
+use Rattle.spe_recover.specs.declared.failure.Failure.{Failure}
+use Rattle.spe_recover.specs.declared.failure.Failure.TheVariants.{Disk, Memory}
 use Rattle.spe_recover.specs.declared.known.Known.{Known}
 use Rattle.spe_recover.specs.Heads.{AreHeads}
 use Rattle.spe_recover.specs.Seen.{IsScanned}
 use Rattle.spe_recover.specs.Survey.{IsSurvey}
 
-abbrev pub of_stop : Stop → RecoverFault
-of_stop Disk = refusals.Disk
-of_stop Memory = refusals.Memory
+abbrev pub of_failure : Failure → RecoverFault
+of_failure Disk = refusals.Disk
+of_failure Memory = refusals.Memory
 
 -- the file's page size and its first bytes
 pub record IsFront (page_size : ℕ) (front : List ℕ) (content : Content) : Type 0 where
@@ -34,9 +34,10 @@ pub record IsKnown (content : Content) (known : Known) (outcome : Result (List (
   pub seen : IsScanned content known.survey.page_size known.seen
   pub heads : AreHeads content known.survey.page_size known.heads
 
-abbrev pub Answers : Content → Result Known RecoverFault → Result (List (List ℕ)) RecoverFault → Type 0
-Answers content (Ok known) outcome = IsKnown content known outcome
-Answers content (Err fault) outcome = IsRefused fault outcome
+-- what is known is so, or the fault is the outcome's
+abbrev pub Tells : Content → Result Known RecoverFault → Result (List (List ℕ)) RecoverFault → Type 0
+Tells content (Ok known) outcome = IsKnown content known outcome
+Tells content (Err fault) outcome = IsRefused fault outcome
 
 abbrev pub IsFaultOf : ℕ → ℕ → RecoverFault → Type 0
 IsFaultOf before now refusals.Disk = Rose before now

@@ -9,8 +9,8 @@ use Rattle.spe_model.specs.Trace.{History, present}
 use Rattle.spe_disk.specs.Told.{Adds}
 use Rattle.spe_journal.specs.Saved.{SavesFirst, SavesNone}
 use Rattle.spe_model.specs.Rollback.{restores, without}
-use Rattle.spe_recover.specs.declared.stop.Stop.{Stop}
-use Rattle.spe_recover.specs.declared.stop.Stop.TheVariants.{Disk, Memory}
+use Rattle.spe_recover.specs.declared.failure.Failure.{Failure}
+use Rattle.spe_recover.specs.declared.failure.Failure.TheVariants.{Disk, Memory}
 
 -- the pages that are still to be written back
 abbrev pub Holders : Type 0
@@ -65,12 +65,12 @@ pub record HasEither {X E : Type 0} (reads reads_now ops ops_now : ℕ) (result 
   pub ops_later : ops ≤ ops_now
   pub failed : OnErr result (Rose reads reads_now ⊎ Rose ops ops_now)
 
-abbrev pub IsEitherOf : (reads reads_now ops ops_now : ℕ) → Stop → Type 0
+abbrev pub IsEitherOf : (reads reads_now ops ops_now : ℕ) → Failure → Type 0
 IsEitherOf reads reads_now ops ops_now Disk = Rose reads reads_now ⊎ Rose ops ops_now
 IsEitherOf reads reads_now ops ops_now Memory = Unit {0}
 
 -- the same, where there may have been no memory
-pub record HasEitherStop {X : Type 0} (reads reads_now ops ops_now : ℕ) (result : Result X Stop) : Type 0 where
+pub record HasEitherFailure {X : Type 0} (reads reads_now ops ops_now : ℕ) (result : Result X Failure) : Type 0 where
   pub reads_later : reads ≤ reads_now
   pub ops_later : ops ≤ ops_now
   pub failed : IfErr result (IsEitherOf reads reads_now ops ops_now)

@@ -11,7 +11,7 @@ use Rattle.spe_disk.specs.Told.{Adds}
 use Rattle.spe_recover.specs.declared.survey.Survey.{Survey}
 use Rattle.spe_recover.specs.Restored.{Holders}
 use Rattle.spe_model.specs.Rollback.{restores, file_cut, cuts_from}
-use Rattle.spe_recover.specs.Told.{WhereTold}
+use Rattle.spe_recover.specs.Told.{IfTold}
 
 -- what writing back rests on
 pub record IsReady (survey : Survey) (holders : Holders) (content : Content) : Type 0 where
@@ -31,4 +31,4 @@ pub record IsMade (old new : Option History) (ops : List Operation) (made : ℕ)
   pub count : made ≡ length ops
 
 abbrev pub Makes : Option History → Option History → (Content → List Operation) → ℕ → Type 0
-Makes old new ops made = WhereTold old (λ content. IsMade old new (ops content) made)
+Makes old new ops made = IfTold old (λ content. IsMade old new (ops content) made)

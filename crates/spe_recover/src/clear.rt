@@ -9,7 +9,7 @@ ghost use Rattle.spe_recover.specs.Cuts.{MakesCut};
 ghost use Rattle.spe_recover.specs.Rule.{Does};
 ghost use Rattle.spe_recover.specs.Restored.{Stays, StaysFrom};
 ghost use Rattle.spe_recover.specs.Heads.{HaveLengths};
-ghost use Rattle.spe_recover.specs.Told.{WhereTold};
+ghost use Rattle.spe_recover.specs.Told.{IfTold};
 
 use crate::heads::{JournalHead, head_at};
 use spe_disk::{Disk, Failed, FileNo};
@@ -51,7 +51,7 @@ pub fn cut_file<D: Disk>(disk: &mut D, size: u64, end: u64) -> Result<u64, Faile
 fn cut_journal<D: Disk>(disk: &mut D, id: u8, size: u64) -> Result<u64, Failed>
     requires attached { D.attached disk.old ≡ true }
     requires numbered { id < 16 }
-    requires size { WhereTold (D.told disk.old) (λ content. size ≡ length (journal_of content id)) }
+    requires size { IfTold (D.told disk.old) (λ content. size ≡ length (journal_of content id)) }
     ensures cut { IfOk result (Does (D.told disk.old) (D.told disk.new) (λ content. cuts_from content id 1)) }
     ensures few { IfOk result (λ made. made ≤ 1) }
     ensures stays { OnOk result (StaysFrom (id + 1) (D.told disk.old) (D.told disk.new)) }
@@ -70,7 +70,7 @@ fn cut_journal<D: Disk>(disk: &mut D, id: u8, size: u64) -> Result<u64, Failed>
 /// Cuts the journals that have bytes, in ascending order, and answers how many operations that took.
 pub fn cut_journals<D: Disk>(disk: &mut D, heads: &[JournalHead; 16]) -> Result<u64, Failed>
     requires attached { D.attached disk.old ≡ true }
-    requires lengths { WhereTold (D.told disk.old) (HaveLengths heads.now) }
+    requires lengths { IfTold (D.told disk.old) (HaveLengths heads.now) }
     ensures cut { IfOk result (Does (D.told disk.old) (D.told disk.new) (λ content. cuts_from content 0 16)) }
     ensures few { IfOk result (λ made. made ≤ 16) }
     ensures stopped { OnErr result (MakesCut (D.told disk.old) (D.told disk.new) (λ content. cuts_from content 0 16)) }

@@ -8,7 +8,7 @@ ghost use Rattle.spe_journal.specs.Kind.{kind_of, saved_under};
 ghost use Rattle.spe_recover.specs.Heads.{IsHead, AreHeads, IsOther};
 ghost use Rattle.spe_recover.specs.Told.{FindsTold, HasCause};
 
-use crate::stop::Stop;
+use crate::failure::Failure;
 use spe_disk::{Disk, FileNo};
 use spe_journal::{HEAD_BYTES, JournalKind, journal_kind};
 
@@ -42,7 +42,7 @@ fn kind_in(head: &[u8], n: usize, page_size: u32) -> JournalKind
 }
 
 // What a journal says to a database of this page size.
-fn read_kind<D: Disk>(disk: &mut D, id: u8, page_size: u32) -> Result<JournalKind, Stop>
+fn read_kind<D: Disk>(disk: &mut D, id: u8, page_size: u32) -> Result<JournalKind, Failure>
     requires attached { D.attached disk.old ≡ true }
     requires numbered { id < 16 }
     ensures kind { FindsTold (D.told disk.old) result (λ content kind. kind_of page_size (journal_of content id) ≡ kind) }
@@ -58,7 +58,7 @@ fn read_kind<D: Disk>(disk: &mut D, id: u8, page_size: u32) -> Result<JournalKin
 }
 
 // How many bytes a journal has.
-fn journal_length<D: Disk>(disk: &mut D, id: u8) -> Result<u64, Stop>
+fn journal_length<D: Disk>(disk: &mut D, id: u8) -> Result<u64, Failure>
     requires attached { D.attached disk.old ≡ true }
     requires numbered { id < 16 }
     ensures length { FindsTold (D.told disk.old) result (λ content n. n ≡ length (journal_of content id)) }
@@ -71,7 +71,7 @@ fn journal_length<D: Disk>(disk: &mut D, id: u8) -> Result<u64, Stop>
 }
 
 // What a journal says in front, and how many bytes it has.
-fn read_head<D: Disk>(disk: &mut D, id: u8, page_size: u32) -> Result<JournalHead, Stop>
+fn read_head<D: Disk>(disk: &mut D, id: u8, page_size: u32) -> Result<JournalHead, Failure>
     requires attached { D.attached disk.old ≡ true }
     requires numbered { id < 16 }
     ensures head { FindsTold (D.told disk.old) result (λ content head. IsHead content page_size id head) }
@@ -94,7 +94,7 @@ fn keep_head(heads: &mut [JournalHead; 16], id: u8, head: JournalHead)
 }
 
 /// What each journal says in front to a database of this page size, and how many bytes it has.
-pub fn read_heads<D: Disk>(disk: &mut D, page_size: u32) -> Result<[JournalHead; 16], Stop>
+pub fn read_heads<D: Disk>(disk: &mut D, page_size: u32) -> Result<[JournalHead; 16], Failure>
     requires attached { D.attached disk.old ≡ true }
     ensures heads { FindsTold (D.told disk.old) result (λ content heads. AreHeads content page_size heads) }
     ensures same { D.told disk.new ≡ D.told disk.old }

@@ -5,14 +5,14 @@ ghost use Rattle.spe_model.specs.declared.file.FileNo.TheVariants.{Database};
 ghost use Rattle.spe_model.specs.Content.{bytes_of};
 ghost use Rattle.spe_model.specs.Header.{is_page_size, page_size_at};
 ghost use Rattle.spe_model.specs.Recovery.{recovered};
-ghost use Rattle.spe_recover.specs.Known.{IsFront, Answers, HasFault};
+ghost use Rattle.spe_recover.specs.Known.{IsFront, Tells, HasFault};
 ghost use Rattle.spe_recover.specs.Survey.{IsLimited, sized_outcome};
-ghost use Rattle.spe_recover.specs.Told.{WhereTold, FindsTold, HasCause};
+ghost use Rattle.spe_recover.specs.Told.{IfTold, FindsTold, HasCause};
 
+use crate::failure::Failure;
 use crate::heads::{JournalHead, find_other, read_heads};
 use crate::scan::scan;
 use crate::seen::Seen;
-use crate::stop::Stop;
 use crate::survey::{Survey, survey_hot};
 use spe_disk::{Disk, FileNo};
 use spe_model::{Header, RecoverFault};
@@ -27,7 +27,7 @@ pub struct Known {
 }
 
 // Fills `front` with the first bytes of the file, and answers how many are there.
-fn read_front<D: Disk>(disk: &mut D, front: &mut [u8; 100]) -> Result<usize, Stop>
+fn read_front<D: Disk>(disk: &mut D, front: &mut [u8; 100]) -> Result<usize, Failure>
     requires attached { D.attached disk.old ≡ true }
     ensures front { FindsTold (D.told disk.old) result (λ content n. take n front.new ≡ take 100 (bytes_of content Database)) }
     ensures within { IfOk result (λ n. n ≤ 100) }
@@ -40,7 +40,7 @@ fn read_front<D: Disk>(disk: &mut D, front: &mut [u8; 100]) -> Result<usize, Sto
 }
 
 // How many bytes the file has.
-fn file_length<D: Disk>(disk: &mut D) -> Result<u64, Stop>
+fn file_length<D: Disk>(disk: &mut D) -> Result<u64, Failure>
     requires attached { D.attached disk.old ≡ true }
     ensures length { FindsTold (D.told disk.old) result (λ content n. n ≡ length (bytes_of content Database)) }
     ensures same { D.told disk.new ≡ D.told disk.old }
@@ -63,8 +63,8 @@ fn survey_sized<D: Disk>(
     requires high { page_size ≤ 65536 }
     requires power { is_page_size page_size ≡ true }
     requires paged { page_size ≡ page_size_at front.old }
-    requires front { WhereTold (D.told disk.old) (IsFront page_size front.old) }
-    ensures answers { WhereTold (D.told disk.old) (λ content. Answers content result (sized_outcome content)) }
+    requires front { IfTold (D.told disk.old) (IsFront page_size front.old) }
+    ensures answers { IfTold (D.told disk.old) (λ content. Tells content result (sized_outcome content)) }
     ensures low { IfOk result (λ known. 512 ≤ known.survey.page_size) }
     ensures high { IfOk result (λ known. known.survey.page_size ≤ 65536) }
     ensures power { IfOk result (λ known. is_page_size known.survey.page_size ≡ true) }
@@ -96,7 +96,7 @@ fn survey_sized<D: Disk>(
 /// What is known of a disk, or the first reason why it is refused.
 pub fn find_known<D: Disk>(alloc: Global, disk: &mut D) -> Result<Known, RecoverFault>
     requires attached { D.attached disk.old ≡ true }
-    ensures answers { WhereTold (D.told disk.old) (λ content. Answers content result (recovered content)) }
+    ensures answers { IfTold (D.told disk.old) (λ content. Tells content result (recovered content)) }
     ensures low { IfOk result (λ known. 512 ≤ known.survey.page_size) }
     ensures high { IfOk result (λ known. known.survey.page_size ≤ 65536) }
     ensures power { IfOk result (λ known. is_page_size known.survey.page_size ≡ true) }

@@ -6,6 +6,7 @@
 #![tactic(auto)]
 
 mod clear;
+mod failure;
 mod heads;
 mod known;
 mod note;
@@ -15,7 +16,6 @@ mod restore;
 mod rolled;
 mod scan;
 mod seen;
-mod stop;
 mod survey;
 mod want;
 mod write_back;

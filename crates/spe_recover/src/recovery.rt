@@ -6,19 +6,19 @@ ghost use Rattle.spe_model.specs.Recovery.{file_page_size, recovered, recovered_
 ghost use Rattle.spe_model.specs.Rollback.{rule_of};
 ghost use Rattle.spe_model.specs.Settled.{IsFound, IsWithinLimits, LeavesPages};
 ghost use Rattle.spe_recover.specs.Cuts.{MakesCut};
-ghost use Rattle.spe_recover.specs.declared.stop.Stop.TheVariants.{Memory};
+ghost use Rattle.spe_recover.specs.declared.failure.Failure.TheVariants.{Memory};
 ghost use Rattle.spe_recover.specs.Heads.{AreHeads};
-ghost use Rattle.spe_recover.specs.Restored.{HasEitherStop};
+ghost use Rattle.spe_recover.specs.Restored.{HasEitherFailure};
 ghost use Rattle.spe_recover.specs.Survey.{IsLimited};
-ghost use Rattle.spe_recover.specs.Told.{WhereTold, WhereBothTold};
+ghost use Rattle.spe_recover.specs.Told.{IfTold, IfBothTold};
 ghost use Rattle.spe_recover.specs.Written.{IsReady, Makes};
 ghost use Rattle.spe_recover.specs.Recovered.{HasPages, AreHotBits, HasCauses, IsPlain, IsRefusal, is_prepared, is_wanted, rollback_of};
 
+use crate::failure::Failure;
 use crate::heads::JournalHead;
 use crate::known::{Known, find_known};
 use crate::rolled::find_rolled;
 use crate::seen::Seen;
-use crate::stop::Stop;
 use crate::survey::Survey;
 use crate::want::Want;
 use crate::write_back::write_back;
@@ -69,25 +69,25 @@ fn roll_back<D: Disk>(
     survey: &Survey,
     heads: &[JournalHead; 16],
     holders: &mut BTreeMap<u32, u8>,
-) -> Result<Recovered, Stop>
+) -> Result<Recovered, Failure>
     requires attached { D.attached disk.old ≡ true }
     requires low { 512 ≤ survey.now.page_size }
     requires high { survey.now.page_size ≤ 65536 }
     requires power { is_page_size survey.now.page_size ≡ true }
     requires limits { IsLimited survey.now }
-    requires heads { WhereTold (D.told disk.old) (λ content. AreHeads content survey.now.page_size heads.now) }
-    requires ready { WhereTold (D.told disk.old) (IsReady survey.now holders.old) }
+    requires heads { IfTold (D.told disk.old) (λ content. AreHeads content survey.now.page_size heads.now) }
+    requires ready { IfTold (D.told disk.old) (IsReady survey.now holders.old) }
     ensures limits { IfOk result IsWithinLimits }
     ensures page_size { IfOk result (λ found. found.page_size ≡ survey.now.page_size) }
     ensures reserved { IfOk result (λ found. found.reserved ≡ survey.now.header.reserved) }
     ensures pages { IfOk result (λ found. found.pages ≡ survey.now.pages) }
     ensures node { IfOk result (λ found. found.node ≡ node_of survey.now.header) }
-    ensures rolled { IfOk result (λ found. WhereTold (D.told disk.old) (λ content. AreHotBits content found.rolled)) }
+    ensures rolled { IfOk result (λ found. IfTold (D.told disk.old) (λ content. AreHotBits content found.rolled)) }
     ensures made { IfOk result (λ found. Makes (D.told disk.old) (D.told disk.new) (λ content. rule_of content survey.now.pages) found.ops) }
     ensures stopped { OnErr result (MakesCut (D.told disk.old) (D.told disk.new) (λ content. rule_of content survey.now.pages)) }
-    ensures untouched { IfErr result (λ stop. stop ≡ Memory → D.told disk.new ≡ D.told disk.old) }
+    ensures untouched { IfErr result (λ failure. failure ≡ Memory → D.told disk.new ≡ D.told disk.old) }
     ensures attached { D.attached disk.new ≡ true }
-    ensures cause { HasEitherStop (D.read_faults disk.old) (D.read_faults disk.new) (D.op_faults disk.old) (D.op_faults disk.new) result }
+    ensures cause { HasEitherFailure (D.read_faults disk.old) (D.read_faults disk.new) (D.op_faults disk.old) (D.op_faults disk.new) result }
 {
     let rolled = find_rolled(heads);
     let ops = write_back(alloc, disk, survey, heads, holders)?;
@@ -101,16 +101,16 @@ fn recover_files<D: Disk>(
     want: Want,
 ) -> Result<Recovered, RecoverFault>
     requires attached { D.attached disk.old ≡ true }
-    ensures pages { IfOk result (λ found. WhereTold (D.told disk.old) (λ content. HasPages content found.pages)) }
-    ensures page_size { IfOk result (λ found. WhereTold (D.told disk.old) (λ content. found.page_size ≡ file_page_size content)) }
-    ensures reserved { IfOk result (λ found. WhereTold (D.told disk.old) (λ content. found.reserved ≡ (recovered_header content).reserved)) }
-    ensures node { IfOk result (λ found. WhereTold (D.told disk.old) (λ content. found.node ≡ node_of (recovered_header content))) }
-    ensures wanted { IfOk result (λ found. WhereTold (D.told disk.old) (λ content. is_wanted want (recovered_header content) ≡ true)) }
+    ensures pages { IfOk result (λ found. IfTold (D.told disk.old) (λ content. HasPages content found.pages)) }
+    ensures page_size { IfOk result (λ found. IfTold (D.told disk.old) (λ content. found.page_size ≡ file_page_size content)) }
+    ensures reserved { IfOk result (λ found. IfTold (D.told disk.old) (λ content. found.reserved ≡ (recovered_header content).reserved)) }
+    ensures node { IfOk result (λ found. IfTold (D.told disk.old) (λ content. found.node ≡ node_of (recovered_header content))) }
+    ensures wanted { IfOk result (λ found. IfTold (D.told disk.old) (λ content. is_wanted want (recovered_header content) ≡ true)) }
     ensures limits { IfOk result IsWithinLimits }
-    ensures rolled { IfOk result (λ found. WhereTold (D.told disk.old) (λ content. AreHotBits content found.rolled)) }
+    ensures rolled { IfOk result (λ found. IfTold (D.told disk.old) (λ content. AreHotBits content found.rolled)) }
     ensures made { IfOk result (λ found. Makes (D.told disk.old) (D.told disk.new) (λ content. rule_of content found.pages) found.ops) }
     ensures cut { MakesCut (D.told disk.old) (D.told disk.new) rollback_of }
-    ensures refusal { IfErr result (λ fault. WhereTold (D.told disk.old) (IsRefusal want fault)) }
+    ensures refusal { IfErr result (λ fault. IfTold (D.told disk.old) (IsRefusal want fault)) }
     ensures untouched { IfErr result (λ fault. IsPlain fault → D.told disk.new ≡ D.told disk.old) }
     ensures cause { HasCauses (D.read_faults disk.old) (D.read_faults disk.new) (D.op_faults disk.old) (D.op_faults disk.new) result }
     ensures attached { D.attached disk.new ≡ true }
@@ -153,24 +153,24 @@ pub fn recover<D: Disk>(alloc: Global, disk: &mut D, want: Want) -> Result<Recov
     requires attached { D.attached disk.old ≡ true }
 
     // What the pages are.
-    ensures pages { IfOk result (λ found. WhereTold (D.told disk.old) (λ content. HasPages content found.pages)) }
-    ensures page_size { IfOk result (λ found. WhereTold (D.told disk.old) (λ content. found.page_size ≡ file_page_size content)) }
-    ensures reserved { IfOk result (λ found. WhereTold (D.told disk.old) (λ content. found.reserved ≡ (recovered_header content).reserved)) }
-    ensures node { IfOk result (λ found. WhereTold (D.told disk.old) (λ content. found.node ≡ node_of (recovered_header content))) }
-    ensures wanted { IfOk result (λ found. WhereTold (D.told disk.old) (λ content. is_wanted want (recovered_header content) ≡ true)) }
+    ensures pages { IfOk result (λ found. IfTold (D.told disk.old) (λ content. HasPages content found.pages)) }
+    ensures page_size { IfOk result (λ found. IfTold (D.told disk.old) (λ content. found.page_size ≡ file_page_size content)) }
+    ensures reserved { IfOk result (λ found. IfTold (D.told disk.old) (λ content. found.reserved ≡ (recovered_header content).reserved)) }
+    ensures node { IfOk result (λ found. IfTold (D.told disk.old) (λ content. found.node ≡ node_of (recovered_header content))) }
+    ensures wanted { IfOk result (λ found. IfTold (D.told disk.old) (λ content. is_wanted want (recovered_header content) ≡ true)) }
     ensures limits { IfOk result IsWithinLimits }
 
     // What was done, and the files then.
-    ensures rolled { IfOk result (λ found. WhereTold (D.told disk.old) (λ content. AreHotBits content found.rolled)) }
+    ensures rolled { IfOk result (λ found. IfTold (D.told disk.old) (λ content. AreHotBits content found.rolled)) }
     ensures made { IfOk result (λ found. Makes (D.told disk.old) (D.told disk.new) (λ content. rule_of content found.pages) found.ops) }
-    ensures settled { IfOk result (λ found. WhereBothTold (D.told disk.old) (D.told disk.new) (λ content now. (pages : List (List ℕ)) → recovered content ≡ Ok pages → IsFound found now pages)) }
+    ensures settled { IfOk result (λ found. IfBothTold (D.told disk.old) (D.told disk.new) (λ content now. (pages : List (List ℕ)) → recovered content ≡ Ok pages → IsFound found now pages)) }
 
     // What it leaves, whatever it answers and wherever a stop cuts it.
     ensures cut { MakesCut (D.told disk.old) (D.told disk.new) rollback_of }
     ensures leaves { LeavesPages (D.told disk.old) (D.told disk.new) }
 
     // Why it is refused.
-    ensures refusal { IfErr result (λ fault. WhereTold (D.told disk.old) (IsRefusal want fault)) }
+    ensures refusal { IfErr result (λ fault. IfTold (D.told disk.old) (IsRefusal want fault)) }
     ensures untouched { IfErr result (λ fault. IsPlain fault → D.told disk.new ≡ D.told disk.old) }
     ensures cause { HasCauses (D.read_faults disk.old) (D.read_faults disk.new) (D.op_faults disk.old) (D.op_faults disk.new) result }
     ensures attached { D.attached disk.new ≡ true }

@@ -11,7 +11,7 @@ ghost use Rattle.spe_model.specs.Rollback.{restores, write_of, without};
 ghost use Rattle.spe_recover.specs.Cuts.{BreaksFirst, MakesCut};
 ghost use Rattle.spe_recover.specs.Restored.{is_due, Restored, RestoresPiece, Stays, HasEither};
 ghost use Rattle.spe_recover.specs.Heads.{IsHead, AreHeads};
-ghost use Rattle.spe_recover.specs.Told.{WhereTold};
+ghost use Rattle.spe_recover.specs.Told.{IfTold};
 
 use crate::heads::{JournalHead, head_at};
 use crate::piece::read_piece;
@@ -96,7 +96,7 @@ fn restore_piece<D: Disk>(
     requires high { page_size ≤ 65536 }
     requires whole { length piece.now ≡ page_size + 8 }
     ensures restores { IfOk result (RestoresPiece nonce page_size pages piece.now (D.told disk.old) (D.told disk.new) holders.old holders.new) }
-    ensures stopped { OnErr result (WhereTold (D.told disk.old) (λ content. BreaksFirst nonce page_size pages piece.now (D.told disk.old) (D.told disk.new) holders.old)) }
+    ensures stopped { OnErr result (IfTold (D.told disk.old) (λ content. BreaksFirst nonce page_size pages piece.now (D.told disk.old) (D.told disk.new) holders.old)) }
     ensures attached { D.attached disk.new ≡ true }
     ensures readings { D.read_faults disk.new ≡ D.read_faults disk.old }
     ensures cause { HasCause (D.op_faults disk.old) (D.op_faults disk.new) result }
@@ -124,8 +124,8 @@ fn restore_records<D: Disk>(
     requires low { 512 ≤ page_size }
     requires high { page_size ≤ 65536 }
     requires page { length buf.old ≡ page_size + 8 }
-    requires end { WhereTold (D.told disk.old) (λ content. end ≡ length (journal_of content id)) }
-    ensures restored { IfOk result (λ made. WhereTold (D.told disk.old) (λ content.
+    requires end { IfTold (D.told disk.old) (λ content. end ≡ length (journal_of content id)) }
+    ensures restored { IfOk result (λ made. IfTold (D.told disk.old) (λ content.
         Restored page_size pages (saved_in nonce page_size (drop 512 (journal_of content id))) (D.told disk.old) (D.told disk.new) holders.old holders.new made)) }
     ensures few { IfOk result (λ made. made * 520 ≤ 2 ^ 64) }
     ensures stays { OnOk result (Stays (D.told disk.old) (D.told disk.new)) }
@@ -163,11 +163,11 @@ fn restore_journal<D: Disk>(
 ) -> Result<u64, Failed>
     requires attached { D.attached disk.old ≡ true }
     requires numbered { id < 16 }
-    requires head { WhereTold (D.told disk.old) (λ content. IsHead content page_size id head.now) }
+    requires head { IfTold (D.told disk.old) (λ content. IsHead content page_size id head.now) }
     requires low { 512 ≤ page_size }
     requires high { page_size ≤ 65536 }
     requires page { length buf.old ≡ page_size + 8 }
-    ensures restored { IfOk result (λ made. WhereTold (D.told disk.old) (λ content.
+    ensures restored { IfOk result (λ made. IfTold (D.told disk.old) (λ content.
         Restored page_size pages (hot_records page_size (journal_of content id)) (D.told disk.old) (D.told disk.new) holders.old holders.new made)) }
     ensures few { IfOk result (λ made. made * 520 ≤ 2 ^ 64) }
     ensures stays { OnOk result (Stays (D.told disk.old) (D.told disk.new)) }
@@ -196,11 +196,11 @@ pub fn restore_all<D: Disk>(
     holders: &mut BTreeMap<u32, u8>,
 ) -> Result<u64, Failed>
     requires attached { D.attached disk.old ≡ true }
-    requires heads { WhereTold (D.told disk.old) (λ content. AreHeads content page_size heads.now) }
+    requires heads { IfTold (D.told disk.old) (λ content. AreHeads content page_size heads.now) }
     requires low { 512 ≤ page_size }
     requires high { page_size ≤ 65536 }
     requires page { length buf.old ≡ page_size + 8 }
-    ensures restored { IfOk result (λ made. WhereTold (D.told disk.old) (λ content.
+    ensures restored { IfOk result (λ made. IfTold (D.told disk.old) (λ content.
         Restored page_size pages (flat_map (λ i. hot_records page_size (journal_of content i)) (numbers_from 0 16)) (D.told disk.old) (D.told disk.new) holders.old holders.new made)) }
     ensures few { IfOk result (λ made. made ≤ 2 ^ 60) }
     ensures stays { OnOk result (Stays (D.told disk.old) (D.told disk.new)) }

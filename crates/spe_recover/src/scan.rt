@@ -6,13 +6,13 @@ ghost use Rattle.spe_model.specs.Recovery.{journal_of};
 ghost use Rattle.spe_journal.specs.Saved.{saved_in};
 ghost use Rattle.spe_recover.specs.Seen.{Notes, NotesPiece, IsScanned, entries_of, entries_from};
 ghost use Rattle.spe_recover.specs.Heads.{IsHead, AreHeads};
-ghost use Rattle.spe_recover.specs.Told.{WhereTold, FindsTold, HasCause};
+ghost use Rattle.spe_recover.specs.Told.{IfTold, FindsTold, HasCause};
 
+use crate::failure::Failure;
 use crate::heads::{JournalHead, head_at};
 use crate::note::{note, nothing_seen};
 use crate::piece::read_piece;
 use crate::seen::Seen;
-use crate::stop::Stop;
 use spe_disk::Disk;
 use spe_journal::{HEAD_BYTES, JournalKind, record_at};
 use std::alloc::{AllocError, Global};
@@ -47,13 +47,13 @@ fn scan_records<D: Disk>(
     end: u64,
     buf: &mut [u8],
     seen: &mut Seen,
-) -> Result<(), Stop>
+) -> Result<(), Failure>
     requires attached { D.attached disk.old ≡ true }
     requires numbered { id < 16 }
     requires low { 512 ≤ page_size }
     requires high { page_size ≤ 65536 }
     requires page { length buf.old ≡ page_size + 8 }
-    requires end { WhereTold (D.told disk.old) (λ content. end ≡ length (journal_of content id)) }
+    requires end { IfTold (D.told disk.old) (λ content. end ≡ length (journal_of content id)) }
     ensures notes { FindsTold (D.told disk.old) result (λ content x. Notes (entries_of id (saved_in nonce page_size (drop 512 (journal_of content id)))) seen.old seen.new) }
     ensures same { D.told disk.new ≡ D.told disk.old }
     ensures attached { D.attached disk.new ≡ true }
@@ -82,10 +82,10 @@ fn scan_journal<D: Disk>(
     page_size: u32,
     buf: &mut [u8],
     seen: &mut Seen,
-) -> Result<(), Stop>
+) -> Result<(), Failure>
     requires attached { D.attached disk.old ≡ true }
     requires numbered { id < 16 }
-    requires head { WhereTold (D.told disk.old) (λ content. IsHead content page_size id head.now) }
+    requires head { IfTold (D.told disk.old) (λ content. IsHead content page_size id head.now) }
     requires low { 512 ≤ page_size }
     requires high { page_size ≤ 65536 }
     requires page { length buf.old ≡ page_size + 8 }
@@ -111,9 +111,9 @@ fn scan_all<D: Disk>(
     page_size: u32,
     buf: &mut [u8],
     seen: &mut Seen,
-) -> Result<(), Stop>
+) -> Result<(), Failure>
     requires attached { D.attached disk.old ≡ true }
-    requires heads { WhereTold (D.told disk.old) (λ content. AreHeads content page_size heads.now) }
+    requires heads { IfTold (D.told disk.old) (λ content. AreHeads content page_size heads.now) }
     requires low { 512 ≤ page_size }
     requires high { page_size ≤ 65536 }
     requires page { length buf.old ≡ page_size + 8 }
@@ -138,9 +138,9 @@ pub fn scan<D: Disk>(
     disk: &mut D,
     heads: &[JournalHead; 16],
     page_size: u32,
-) -> Result<Seen, Stop>
+) -> Result<Seen, Failure>
     requires attached { D.attached disk.old ≡ true }
-    requires heads { WhereTold (D.told disk.old) (λ content. AreHeads content page_size heads.now) }
+    requires heads { IfTold (D.told disk.old) (λ content. AreHeads content page_size heads.now) }
     requires low { 512 ≤ page_size }
     requires high { page_size ≤ 65536 }
     ensures seen { FindsTold (D.told disk.old) result (λ content seen. IsScanned content page_size seen) }

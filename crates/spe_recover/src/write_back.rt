@@ -3,16 +3,16 @@
 ghost use Rattle.std.specs.Prelude.{◌≡◌, ◌≤◌, ◌+◌, true, length, IfOk, IfErr, OnErr};
 ghost use Rattle.spe_model.specs.Rollback.{rule_of};
 ghost use Rattle.spe_recover.specs.Cuts.{MakesCut};
-ghost use Rattle.spe_recover.specs.Restored.{HasEither, HasEitherStop};
-ghost use Rattle.spe_recover.specs.declared.stop.Stop.TheVariants.{Memory};
+ghost use Rattle.spe_recover.specs.Restored.{HasEither, HasEitherFailure};
+ghost use Rattle.spe_recover.specs.declared.failure.Failure.TheVariants.{Memory};
 ghost use Rattle.spe_recover.specs.Heads.{AreHeads};
-ghost use Rattle.spe_recover.specs.Told.{WhereTold};
+ghost use Rattle.spe_recover.specs.Told.{IfTold};
 ghost use Rattle.spe_recover.specs.Written.{IsReady, Makes, all_of};
 
 use crate::clear::{any_length, cut_file, cut_journals};
+use crate::failure::Failure;
 use crate::heads::JournalHead;
 use crate::restore::restore_all;
-use crate::stop::Stop;
 use crate::survey::Survey;
 use spe_disk::{Disk, Failed};
 use std::alloc::Global;
@@ -30,8 +30,8 @@ fn write_files<D: Disk>(
     requires low { 512 ≤ survey.now.page_size }
     requires high { survey.now.page_size ≤ 65536 }
     requires page { length buf.old ≡ survey.now.page_size + 8 }
-    requires heads { WhereTold (D.told disk.old) (λ content. AreHeads content survey.now.page_size heads.now) }
-    requires ready { WhereTold (D.told disk.old) (IsReady survey.now holders.old) }
+    requires heads { IfTold (D.told disk.old) (λ content. AreHeads content survey.now.page_size heads.now) }
+    requires ready { IfTold (D.told disk.old) (IsReady survey.now holders.old) }
     ensures made { IfOk result (Makes (D.told disk.old) (D.told disk.new) (λ content. all_of content survey.now.pages)) }
     ensures stopped { OnErr result (MakesCut (D.told disk.old) (D.told disk.new) (λ content. all_of content survey.now.pages)) }
     ensures attached { D.attached disk.new ≡ true }
@@ -51,17 +51,17 @@ pub fn write_back<D: Disk>(
     survey: &Survey,
     heads: &[JournalHead; 16],
     holders: &mut BTreeMap<u32, u8>,
-) -> Result<u64, Stop>
+) -> Result<u64, Failure>
     requires attached { D.attached disk.old ≡ true }
     requires low { 512 ≤ survey.now.page_size }
     requires high { survey.now.page_size ≤ 65536 }
-    requires heads { WhereTold (D.told disk.old) (λ content. AreHeads content survey.now.page_size heads.now) }
-    requires ready { WhereTold (D.told disk.old) (IsReady survey.now holders.old) }
+    requires heads { IfTold (D.told disk.old) (λ content. AreHeads content survey.now.page_size heads.now) }
+    requires ready { IfTold (D.told disk.old) (IsReady survey.now holders.old) }
     ensures made { IfOk result (Makes (D.told disk.old) (D.told disk.new) (λ content. rule_of content survey.now.pages)) }
     ensures stopped { OnErr result (MakesCut (D.told disk.old) (D.told disk.new) (λ content. rule_of content survey.now.pages)) }
-    ensures untouched { IfErr result (λ stop. stop ≡ Memory → D.told disk.new ≡ D.told disk.old) }
+    ensures untouched { IfErr result (λ failure. failure ≡ Memory → D.told disk.new ≡ D.told disk.old) }
     ensures attached { D.attached disk.new ≡ true }
-    ensures cause { HasEitherStop (D.read_faults disk.old) (D.read_faults disk.new) (D.op_faults disk.old) (D.op_faults disk.new) result }
+    ensures cause { HasEitherFailure (D.read_faults disk.old) (D.read_faults disk.new) (D.op_faults disk.old) (D.op_faults disk.new) result }
 {
     if !any_length(heads) {
         return Ok(0);

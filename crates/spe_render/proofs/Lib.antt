@@ -1,4 +1,4 @@
-pub mod GivesLemmas
+pub mod PassesLemmas
 pub mod TextLemmas
 pub mod ReadLemmas
 pub mod ValueReads

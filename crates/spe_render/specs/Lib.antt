@@ -1,5 +1,5 @@
 pub mod Values
 pub mod Replies
 pub mod Outcomes
-pub mod Gives
+pub mod Passes
 pub mod Law

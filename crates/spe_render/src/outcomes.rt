@@ -3,7 +3,7 @@
 ghost use Rattle.std.specs.Prelude.{◌≡◌};
 ghost use Rattle.hex.specs.Hex.{encode_lower};
 ghost use Rattle.byteorder.specs.Endian.{big_bytes};
-ghost use Rattle.spe_render.specs.Gives.{Gives};
+ghost use Rattle.spe_render.specs.Passes.{Passes};
 ghost use Rattle.spe_render.specs.Outcomes.{cause_text, client_text, clients_text, ending_text, numbered, outcome_text, transaction_text, transactions_text, without_zeros, word_text};
 
 use crate::printer::Printer;
@@ -37,7 +37,7 @@ fn significant(digits: &[u8]) -> &[u8]
 }
 
 fn put_word<W: Sink>(out: &mut Printer, sink: &mut W, word: u64)
-    ensures { Gives (W.taken sink.old) (W.taken sink.new) (W.faults sink.old) (W.faults sink.new) out.old out.new (word_text word) }
+    ensures { Passes (W.taken sink.old) (W.taken sink.new) (W.faults sink.old) (W.faults sink.new) out.old out.new (word_text word) }
 {
     let digits = digits_of(word);
     out.bytes(sink, b"0x");
@@ -46,14 +46,14 @@ fn put_word<W: Sink>(out: &mut Printer, sink: &mut W, word: u64)
 
 // Prints words and a number behind them.
 fn put_number<W: Sink>(out: &mut Printer, sink: &mut W, words: &[u8], number: u64)
-    ensures { Gives (W.taken sink.old) (W.taken sink.new) (W.faults sink.old) (W.faults sink.new) out.old out.new (numbered words.now number) }
+    ensures { Passes (W.taken sink.old) (W.taken sink.new) (W.faults sink.old) (W.faults sink.new) out.old out.new (numbered words.now number) }
 {
     out.bytes(sink, words);
     out.number(sink, number);
 }
 
 fn put_cause<W: Sink>(out: &mut Printer, sink: &mut W, cause: Cause)
-    ensures { Gives (W.taken sink.old) (W.taken sink.new) (W.faults sink.old) (W.faults sink.new) out.old out.new (cause_text cause) }
+    ensures { Passes (W.taken sink.old) (W.taken sink.new) (W.faults sink.old) (W.faults sink.new) out.old out.new (cause_text cause) }
 {
     match cause {
         Cause::Read => out.bytes(sink, b" read"),
@@ -64,7 +64,7 @@ fn put_cause<W: Sink>(out: &mut Printer, sink: &mut W, cause: Cause)
 
 // Prints how a transaction ended.
 fn put_ending<W: Sink>(out: &mut Printer, sink: &mut W, outcome: Outcome)
-    ensures { Gives (W.taken sink.old) (W.taken sink.new) (W.faults sink.old) (W.faults sink.new) out.old out.new (ending_text outcome) }
+    ensures { Passes (W.taken sink.old) (W.taken sink.new) (W.faults sink.old) (W.faults sink.new) out.old out.new (ending_text outcome) }
 {
     match outcome {
         Outcome::Commit { number } => put_number(out, sink, b" commit ", number),
@@ -90,7 +90,7 @@ fn put_ending<W: Sink>(out: &mut Printer, sink: &mut W, outcome: Outcome)
 
 // Prints the line of a transaction.
 fn put_outcome<W: Sink>(out: &mut Printer, sink: &mut W, number: u64, outcome: Outcome)
-    ensures { Gives (W.taken sink.old) (W.taken sink.new) (W.faults sink.old) (W.faults sink.new) out.old out.new (outcome_text number outcome) }
+    ensures { Passes (W.taken sink.old) (W.taken sink.new) (W.faults sink.old) (W.faults sink.new) out.old out.new (outcome_text number outcome) }
 {
     put_number(out, sink, b"tx ", number);
     put_ending(out, sink, outcome);
@@ -103,7 +103,7 @@ fn put_transaction<W: Sink>(
     number: u64,
     transaction: &(Outcome, Replies),
 )
-    ensures { Gives (W.taken sink.old) (W.taken sink.new) (W.faults sink.old) (W.faults sink.new) out.old out.new (transaction_text number transaction.now) }
+    ensures { Passes (W.taken sink.old) (W.taken sink.new) (W.faults sink.old) (W.faults sink.new) out.old out.new (transaction_text number transaction.now) }
 {
     let (outcome, replies) = transaction;
     put_outcome(out, sink, number, *outcome);
@@ -111,7 +111,7 @@ fn put_transaction<W: Sink>(
 }
 
 fn put_transactions<W: Sink>(out: &mut Printer, sink: &mut W, transactions: &[(Outcome, Replies)])
-    ensures { Gives (W.taken sink.old) (W.taken sink.new) (W.faults sink.old) (W.faults sink.new) out.old out.new (transactions_text 1 transactions.now) }
+    ensures { Passes (W.taken sink.old) (W.taken sink.new) (W.faults sink.old) (W.faults sink.new) out.old out.new (transactions_text 1 transactions.now) }
 {
     let mut left = transactions;
     let mut number = 1;
@@ -123,7 +123,7 @@ fn put_transactions<W: Sink>(out: &mut Printer, sink: &mut W, transactions: &[(O
 }
 
 fn put_client<W: Sink>(out: &mut Printer, sink: &mut W, number: u64, client: &Transcript)
-    ensures { Gives (W.taken sink.old) (W.taken sink.new) (W.faults sink.old) (W.faults sink.new) out.old out.new (client_text number client.now) }
+    ensures { Passes (W.taken sink.old) (W.taken sink.new) (W.faults sink.old) (W.faults sink.new) out.old out.new (client_text number client.now) }
 {
     put_number(out, sink, b"client ", number);
     out.byte(sink, b'\n');
@@ -132,7 +132,7 @@ fn put_client<W: Sink>(out: &mut Printer, sink: &mut W, number: u64, client: &Tr
 
 /// Prints the lines of clients, which are numbered from 1.
 pub fn put_clients<W: Sink>(out: &mut Printer, sink: &mut W, clients: &[Transcript])
-    ensures { Gives (W.taken sink.old) (W.taken sink.new) (W.faults sink.old) (W.faults sink.new) out.old out.new (clients_text 1 clients.now) }
+    ensures { Passes (W.taken sink.old) (W.taken sink.new) (W.faults sink.old) (W.faults sink.new) out.old out.new (clients_text 1 clients.now) }
 {
     let mut left = clients;
     let mut client_number = 1;

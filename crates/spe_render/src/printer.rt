@@ -2,7 +2,7 @@
 
 ghost use Rattle.std.specs.Prelude.{◌≡◌, ◌∷◌, [], Some, decimal, IsTrue, IsFalse};
 ghost use Rattle.std.specs.Fmt.{signed_decimal};
-ghost use Rattle.spe_render.specs.Gives.{Ends, Gives, HasNone, Keeps};
+ghost use Rattle.spe_render.specs.Passes.{Ends, Passes, HasNone, Keeps};
 
 use arrayvec::ArrayVec;
 use itoa::Buffer;
@@ -44,7 +44,7 @@ impl Printer {
     // Puts what waits to the sink.
     fn flush<W: Sink>(&mut self, sink: &mut W)
         ensures none { HasNone self.new }
-        ensures gives { Gives (W.taken sink.old) (W.taken sink.new) (W.faults sink.old) (W.faults sink.new) self.old self.new [] }
+        ensures gives { Passes (W.taken sink.old) (W.taken sink.new) (W.faults sink.old) (W.faults sink.new) self.old self.new [] }
     {
         if self.has_failed {
             return;
@@ -66,7 +66,7 @@ impl Printer {
     // Puts bytes where nothing waits before them.
     fn put<W: Sink>(&mut self, sink: &mut W, bytes: &[u8])
         requires { HasNone self.old }
-        ensures { Gives (W.taken sink.old) (W.taken sink.new) (W.faults sink.old) (W.faults sink.new) self.old self.new bytes.now }
+        ensures { Passes (W.taken sink.old) (W.taken sink.new) (W.faults sink.old) (W.faults sink.new) self.old self.new bytes.now }
     {
         if self.has_failed {
             return;
@@ -78,7 +78,7 @@ impl Printer {
 
     // Prints bytes for which there was no room.
     fn flush_and_print<W: Sink>(&mut self, sink: &mut W, bytes: &[u8])
-        ensures { Gives (W.taken sink.old) (W.taken sink.new) (W.faults sink.old) (W.faults sink.new) self.old self.new bytes.now }
+        ensures { Passes (W.taken sink.old) (W.taken sink.new) (W.faults sink.old) (W.faults sink.new) self.old self.new bytes.now }
     {
         self.flush(sink);
         if self.keep(bytes) {
@@ -89,7 +89,7 @@ impl Printer {
 
     /// Prints these bytes.
     pub fn bytes<W: Sink>(&mut self, sink: &mut W, bytes: &[u8])
-        ensures { Gives (W.taken sink.old) (W.taken sink.new) (W.faults sink.old) (W.faults sink.new) self.old self.new bytes.now }
+        ensures { Passes (W.taken sink.old) (W.taken sink.new) (W.faults sink.old) (W.faults sink.new) self.old self.new bytes.now }
     {
         if self.keep(bytes) {
             return;
@@ -99,21 +99,21 @@ impl Printer {
 
     /// Prints one byte.
     pub fn byte<W: Sink>(&mut self, sink: &mut W, byte: u8)
-        ensures { Gives (W.taken sink.old) (W.taken sink.new) (W.faults sink.old) (W.faults sink.new) self.old self.new (byte ∷ []) }
+        ensures { Passes (W.taken sink.old) (W.taken sink.new) (W.faults sink.old) (W.faults sink.new) self.old self.new (byte ∷ []) }
     {
         self.bytes(sink, &[byte]);
     }
 
     /// Prints a number that is not negative.
     pub fn number<W: Sink>(&mut self, sink: &mut W, number: u64)
-        ensures { Gives (W.taken sink.old) (W.taken sink.new) (W.faults sink.old) (W.faults sink.new) self.old self.new (decimal number) }
+        ensures { Passes (W.taken sink.old) (W.taken sink.new) (W.faults sink.old) (W.faults sink.new) self.old self.new (decimal number) }
     {
         self.bytes(sink, Buffer::new().format(number).as_bytes());
     }
 
     /// Prints a number with its sign where it is negative.
     pub fn signed<W: Sink>(&mut self, sink: &mut W, number: i64)
-        ensures { Gives (W.taken sink.old) (W.taken sink.new) (W.faults sink.old) (W.faults sink.new) self.old self.new (signed_decimal number) }
+        ensures { Passes (W.taken sink.old) (W.taken sink.new) (W.faults sink.old) (W.faults sink.new) self.old self.new (signed_decimal number) }
     {
         self.bytes(sink, Buffer::new().format(number).as_bytes());
     }

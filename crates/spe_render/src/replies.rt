@@ -1,7 +1,7 @@
 //! The text of replies.
 
 ghost use Rattle.std.specs.Prelude.{◌≡◌, ◌∷◌, [], ◌++◌, decimal};
-ghost use Rattle.spe_render.specs.Gives.{Gives};
+ghost use Rattle.spe_render.specs.Passes.{Passes};
 ghost use Rattle.spe_render.specs.Replies.{all_shown, inserted_reply, refusal_name, refused_reply, replies_text, reply_text, rows_reply, shown_text};
 
 use crate::printer::Printer;
@@ -11,7 +11,7 @@ use spe_model::{Refusal, Reply, Rows, Values};
 
 // Prints the line of a row that a statement asked for.
 fn put_shown<W: Sink>(out: &mut Printer, sink: &mut W, row: &Values)
-    ensures { Gives (W.taken sink.old) (W.taken sink.new) (W.faults sink.old) (W.faults sink.new) out.old out.new (shown_text row.now) }
+    ensures { Passes (W.taken sink.old) (W.taken sink.new) (W.faults sink.old) (W.faults sink.new) out.old out.new (shown_text row.now) }
 {
     out.bytes(sink, b"  row ");
     put_joined(out, sink, row.as_slice());
@@ -19,7 +19,7 @@ fn put_shown<W: Sink>(out: &mut Printer, sink: &mut W, row: &Values)
 }
 
 fn put_all_shown<W: Sink>(out: &mut Printer, sink: &mut W, rows: &[Values])
-    ensures { Gives (W.taken sink.old) (W.taken sink.new) (W.faults sink.old) (W.faults sink.new) out.old out.new (all_shown rows.now) }
+    ensures { Passes (W.taken sink.old) (W.taken sink.new) (W.faults sink.old) (W.faults sink.new) out.old out.new (all_shown rows.now) }
 {
     let mut left = rows;
     while let [row, rest @ ..] = left {
@@ -30,7 +30,7 @@ fn put_all_shown<W: Sink>(out: &mut Printer, sink: &mut W, rows: &[Values])
 
 /// Prints a line that ends with a count.
 pub fn put_count<W: Sink>(out: &mut Printer, sink: &mut W, words: &[u8], count: u64)
-    ensures { Gives (W.taken sink.old) (W.taken sink.new) (W.faults sink.old) (W.faults sink.new) out.old out.new (words.now ++ decimal count ++ 10 ∷ []) }
+    ensures { Passes (W.taken sink.old) (W.taken sink.new) (W.faults sink.old) (W.faults sink.new) out.old out.new (words.now ++ decimal count ++ 10 ∷ []) }
 {
     out.bytes(sink, words);
     out.number(sink, count);
@@ -39,7 +39,7 @@ pub fn put_count<W: Sink>(out: &mut Printer, sink: &mut W, words: &[u8], count: 
 
 // Prints rows that a statement asked for, and how many they are.
 fn put_counted_rows<W: Sink>(out: &mut Printer, sink: &mut W, rows: &Rows)
-    ensures { Gives (W.taken sink.old) (W.taken sink.new) (W.faults sink.old) (W.faults sink.new) out.old out.new (rows_reply rows.now) }
+    ensures { Passes (W.taken sink.old) (W.taken sink.new) (W.faults sink.old) (W.faults sink.new) out.old out.new (rows_reply rows.now) }
 {
     let shown = rows.as_slice();
     put_all_shown(out, sink, shown);
@@ -47,7 +47,7 @@ fn put_counted_rows<W: Sink>(out: &mut Printer, sink: &mut W, rows: &Rows)
 }
 
 fn put_inserted<W: Sink>(out: &mut Printer, sink: &mut W, rowid: i64)
-    ensures { Gives (W.taken sink.old) (W.taken sink.new) (W.faults sink.old) (W.faults sink.new) out.old out.new (inserted_reply rowid) }
+    ensures { Passes (W.taken sink.old) (W.taken sink.new) (W.faults sink.old) (W.faults sink.new) out.old out.new (inserted_reply rowid) }
 {
     out.bytes(sink, b"  inserted ");
     out.signed(sink, rowid);
@@ -74,7 +74,7 @@ fn name_of(refusal: Refusal) -> &'static [u8]
 }
 
 fn put_refused<W: Sink>(out: &mut Printer, sink: &mut W, refusal: Refusal)
-    ensures { Gives (W.taken sink.old) (W.taken sink.new) (W.faults sink.old) (W.faults sink.new) out.old out.new (refused_reply refusal) }
+    ensures { Passes (W.taken sink.old) (W.taken sink.new) (W.faults sink.old) (W.faults sink.new) out.old out.new (refused_reply refusal) }
 {
     out.bytes(sink, b"  error ");
     out.bytes(sink, name_of(refusal));
@@ -82,7 +82,7 @@ fn put_refused<W: Sink>(out: &mut Printer, sink: &mut W, refusal: Refusal)
 }
 
 fn put_reply<W: Sink>(out: &mut Printer, sink: &mut W, reply: &Reply)
-    ensures { Gives (W.taken sink.old) (W.taken sink.new) (W.faults sink.old) (W.faults sink.new) out.old out.new (reply_text reply.now) }
+    ensures { Passes (W.taken sink.old) (W.taken sink.new) (W.faults sink.old) (W.faults sink.new) out.old out.new (reply_text reply.now) }
 {
     match reply {
         Reply::Rows(rows) => put_counted_rows(out, sink, rows),
@@ -95,7 +95,7 @@ fn put_reply<W: Sink>(out: &mut Printer, sink: &mut W, reply: &Reply)
 
 /// Prints the lines of replies, each behind two blanks.
 pub fn put_replies<W: Sink>(out: &mut Printer, sink: &mut W, replies: &[Reply])
-    ensures { Gives (W.taken sink.old) (W.taken sink.new) (W.faults sink.old) (W.faults sink.new) out.old out.new (replies_text replies.now) }
+    ensures { Passes (W.taken sink.old) (W.taken sink.new) (W.faults sink.old) (W.faults sink.new) out.old out.new (replies_text replies.now) }
 {
     let mut left = replies;
     while let [reply, rest @ ..] = left {

@@ -2,7 +2,7 @@
 
 ghost use Rattle.std.specs.Prelude.{◌≡◌, ◌∷◌, []};
 ghost use Rattle.hex.specs.Hex.{encode_lower};
-ghost use Rattle.spe_render.specs.Gives.{Gives};
+ghost use Rattle.spe_render.specs.Passes.{Passes};
 ghost use Rattle.spe_render.specs.Values.{barred, barred_value, joined, quoted, quoted_byte, row_text, rows_text, value_text};
 
 use crate::printer::Printer;
@@ -11,7 +11,7 @@ use spe_model::{Value, Values};
 
 // Prints a byte of a text, a quote doubled.
 fn put_quoted_byte<W: Sink>(out: &mut Printer, sink: &mut W, byte: u8)
-    ensures { Gives (W.taken sink.old) (W.taken sink.new) (W.faults sink.old) (W.faults sink.new) out.old out.new (quoted_byte byte) }
+    ensures { Passes (W.taken sink.old) (W.taken sink.new) (W.faults sink.old) (W.faults sink.new) out.old out.new (quoted_byte byte) }
 {
     if byte == b'\'' {
         out.bytes(sink, b"''");
@@ -22,7 +22,7 @@ fn put_quoted_byte<W: Sink>(out: &mut Printer, sink: &mut W, byte: u8)
 
 // Prints a text with each quote doubled.
 fn put_quoted<W: Sink>(out: &mut Printer, sink: &mut W, text: &[u8])
-    ensures { Gives (W.taken sink.old) (W.taken sink.new) (W.faults sink.old) (W.faults sink.new) out.old out.new (quoted text.now) }
+    ensures { Passes (W.taken sink.old) (W.taken sink.new) (W.faults sink.old) (W.faults sink.new) out.old out.new (quoted text.now) }
 {
     let mut left = text;
     while let [byte, rest @ ..] = left {
@@ -33,7 +33,7 @@ fn put_quoted<W: Sink>(out: &mut Printer, sink: &mut W, text: &[u8])
 
 // Prints the two hexadecimal digits of a byte.
 fn put_hex_byte<W: Sink>(out: &mut Printer, sink: &mut W, byte: u8)
-    ensures { Gives (W.taken sink.old) (W.taken sink.new) (W.faults sink.old) (W.faults sink.new) out.old out.new (encode_lower (byte ∷ [])) }
+    ensures { Passes (W.taken sink.old) (W.taken sink.new) (W.faults sink.old) (W.faults sink.new) out.old out.new (encode_lower (byte ∷ [])) }
 {
     let mut digits = [0; 2];
     if hex::encode_to_slice([byte], &mut digits).is_err() {
@@ -44,7 +44,7 @@ fn put_hex_byte<W: Sink>(out: &mut Printer, sink: &mut W, byte: u8)
 
 // Prints the hexadecimal digits of bytes.
 fn put_hex<W: Sink>(out: &mut Printer, sink: &mut W, bytes: &[u8])
-    ensures { Gives (W.taken sink.old) (W.taken sink.new) (W.faults sink.old) (W.faults sink.new) out.old out.new (encode_lower bytes.now) }
+    ensures { Passes (W.taken sink.old) (W.taken sink.new) (W.faults sink.old) (W.faults sink.new) out.old out.new (encode_lower bytes.now) }
 {
     let mut left = bytes;
     while let [byte, rest @ ..] = left {
@@ -54,7 +54,7 @@ fn put_hex<W: Sink>(out: &mut Printer, sink: &mut W, bytes: &[u8])
 }
 
 fn put_value<W: Sink>(out: &mut Printer, sink: &mut W, value: &Value)
-    ensures { Gives (W.taken sink.old) (W.taken sink.new) (W.faults sink.old) (W.faults sink.new) out.old out.new (value_text value.now) }
+    ensures { Passes (W.taken sink.old) (W.taken sink.new) (W.faults sink.old) (W.faults sink.new) out.old out.new (value_text value.now) }
 {
     match value {
         Value::Null => out.bytes(sink, b"NULL"),
@@ -79,7 +79,7 @@ fn put_value<W: Sink>(out: &mut Printer, sink: &mut W, value: &Value)
 
 // Prints a value behind a bar.
 fn put_barred_value<W: Sink>(out: &mut Printer, sink: &mut W, value: &Value)
-    ensures { Gives (W.taken sink.old) (W.taken sink.new) (W.faults sink.old) (W.faults sink.new) out.old out.new (barred_value value.now) }
+    ensures { Passes (W.taken sink.old) (W.taken sink.new) (W.faults sink.old) (W.faults sink.new) out.old out.new (barred_value value.now) }
 {
     out.byte(sink, b'|');
     put_value(out, sink, value);
@@ -87,7 +87,7 @@ fn put_barred_value<W: Sink>(out: &mut Printer, sink: &mut W, value: &Value)
 
 // Prints values, each behind a bar.
 fn put_barred<W: Sink>(out: &mut Printer, sink: &mut W, values: &[Value])
-    ensures { Gives (W.taken sink.old) (W.taken sink.new) (W.faults sink.old) (W.faults sink.new) out.old out.new (barred values.now) }
+    ensures { Passes (W.taken sink.old) (W.taken sink.new) (W.faults sink.old) (W.faults sink.new) out.old out.new (barred values.now) }
 {
     let mut left = values;
     while let [value, rest @ ..] = left {
@@ -98,7 +98,7 @@ fn put_barred<W: Sink>(out: &mut Printer, sink: &mut W, values: &[Value])
 
 /// Prints values with bars between them.
 pub fn put_joined<W: Sink>(out: &mut Printer, sink: &mut W, values: &[Value])
-    ensures { Gives (W.taken sink.old) (W.taken sink.new) (W.faults sink.old) (W.faults sink.new) out.old out.new (joined values.now) }
+    ensures { Passes (W.taken sink.old) (W.taken sink.new) (W.faults sink.old) (W.faults sink.new) out.old out.new (joined values.now) }
 {
     if let [value, rest @ ..] = values {
         put_value(out, sink, value);
@@ -108,7 +108,7 @@ pub fn put_joined<W: Sink>(out: &mut Printer, sink: &mut W, values: &[Value])
 
 // Prints the line of a row.
 fn put_row<W: Sink>(out: &mut Printer, sink: &mut W, row: &(i64, Values))
-    ensures { Gives (W.taken sink.old) (W.taken sink.new) (W.faults sink.old) (W.faults sink.new) out.old out.new (row_text row.now) }
+    ensures { Passes (W.taken sink.old) (W.taken sink.new) (W.faults sink.old) (W.faults sink.new) out.old out.new (row_text row.now) }
 {
     let (rowid, values) = row;
     out.signed(sink, *rowid);
@@ -118,7 +118,7 @@ fn put_row<W: Sink>(out: &mut Printer, sink: &mut W, row: &(i64, Values))
 
 /// Prints a line for each row of a table: its rowid, and each value behind a bar.
 pub fn put_rows<W: Sink>(out: &mut Printer, sink: &mut W, rows: &[(i64, Values)])
-    ensures { Gives (W.taken sink.old) (W.taken sink.new) (W.faults sink.old) (W.faults sink.new) out.old out.new (rows_text rows.now) }
+    ensures { Passes (W.taken sink.old) (W.taken sink.new) (W.faults sink.old) (W.faults sink.new) out.old out.new (rows_text rows.now) }
 {
     let mut left = rows;
     while let [row, rest @ ..] = left {

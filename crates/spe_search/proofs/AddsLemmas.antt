@@ -6,7 +6,7 @@ use Rattle.std.proofs.lemmas.List.Elements.{Contains-append_left, Contains-appen
 use Rattle.spe_model.specs.declared.page.Kind.TheVariants.{TableLeaf, TableInterior}
 use Rattle.spe_model.specs.declared.page.PageCells.{PageCells}
 use Rattle.spe_model.specs.Paging.{Paging, Agrees}
-use Rattle.spe_model.specs.Tree.{header_end, node_at, node_cells, node_right}
+use Rattle.spe_model.specs.Tree.{rank, header_end, node_at, node_cells, node_right}
 use Rattle.spe_model.specs.Range.{touched, joined}
 use Rattle.spe_space.specs.Calls.{Reads, sight}
 use Rattle.spe_space.specs.declared.pages.Pages.{Ghosts}
@@ -40,6 +40,7 @@ leaf_over usable pages low high page n at = record {
   row = at.link.row;
   inside = root_touched usable pages low high zero page page refl;
   shown = record { shown = at.shown; is = at.is; has = at.link.is };
+  kind = at.kind;
   from = at.link.from;
   to = at.link.to;
   link = at.link.link;
@@ -52,6 +53,7 @@ child_over usable pages low high height page child n touches over = record {
   row = over.row;
   inside = child_touched usable pages low high height page child over.leaf touches over.inside;
   shown = over.shown;
+  kind = over.kind;
   from = over.from;
   to = over.to;
   link = over.link;
@@ -73,6 +75,7 @@ visit_adds g early mid late page low high shown used laid only legal is look pag
       | inr link ↦ inr (inr (record {
         shown = shown;
         is = is pages agrees;
+        kind = link.0;
         leaf = λ cells e. sym (ap (λ (x : Shown). x.kind) (legal pages agrees cells e)) ∙ link.0;
         link = link.1;
       }))
@@ -113,3 +116,12 @@ adds_child g early now later page low high levels child old mid left rest kept k
       | inr (inl has) ↦ inr (inl (child_touched usable view low high height page child n touches has))
       | inr (inr over) ↦ inr (inr (child_over usable view low high height page child n touches over))
     ]
+
+-- the bounds by their ranks
+pub adds_ranks : {P : Type 0} (g : Ghosts P) (early late : P) (page from to : ℕ) (a b low high : ℤ) → from ≡ rank a → to ≡ rank b → a ≡ low → b ≡ high
+    → AddsOfRange g early late page from to → AddsOfRange g early late page (rank low) (rank high)
+adds_ranks g early late page from to a b low high f t l h adds = rw (← l, ← h, ← f, ← t) adds
+
+pub adds_between : {P : Type 0} (g : Ghosts P) (early late : P) (page : ℕ) (a b low high : ℤ) → a ≡ low → b ≡ high
+    → AddsOfRange g early late page (rank a) (rank b) → AddsOfRange g early late page (rank low) (rank high)
+adds_between g early late page a b low high l h adds = rw (← l, ← h) adds

@@ -41,7 +41,7 @@ pub interior_leads : (usable : ℕ) (pages : Paging) (height low high page : ℕ
 interior_leads usable pages height low high page rowid step given tree =
     given.1 _ tree.0 (under_sorted (IsTree usable pages height) low high (node_cells usable pages page) (node_right usable pages page) tree.1)
 
-no_leaf : TableInterior ≡ TableLeaf → ⊥
+pub no_leaf : TableInterior ≡ TableLeaf → ⊥
 no_leaf e = cc
 
 pub no_interior : TableLeaf ≡ TableInterior → ⊥
@@ -110,7 +110,7 @@ row_names g early mid late page rowid levels found (Err (Corrupt at)) some first
     let usable = g.used early in
     let view = sight g early pages in
     let step = (given pages (second.earlier pages agrees)).0 in
-    let row = step.2 in
+    let row = step.2.1 in
     let broken = rw (first.used, first.laid) at (names pages agrees) in
     let A : ℕ → Type 0 = λ r. ((at ≡ page) × IsAmiss r found.chain) ⊎ EndsWrong usable view r found.chain at in
     let B : ℕ → Type 0 = λ n. ((at ≡ page) × IsAmiss (rest_of row.0) n) ⊎ EndsWrong usable view (rest_of row.0) n at in
@@ -144,7 +144,7 @@ pub row_over : {P : Type 0} (g : Ghosts P) (early mid late : P) (page : ℕ) (ro
     → IsOverflowBetween (g.used early) (sight g early pages) (rank rowid) (rank rowid) height page n
 row_over g early mid late page rowid found second given pages agrees height n link =
     let step = (given pages (second.earlier pages agrees)).0 in
-    let row = step.2 in
+    let row = step.2.1 in
     let same = ap rank row.2 in
     let A : ℕ → Type 0 = λ r. IsLink (g.used early) (sight g early pages) r found.chain n in
     let B : ℕ → Type 0 = λ c. IsLink (g.used early) (sight g early pages) (rest_of row.0) c n in
@@ -153,6 +153,7 @@ row_over g early mid late page rowid found second given pages agrees height n li
       row = row.0;
       inside = root_touched (g.used early) (sight g early pages) (rank rowid) (rank rowid) height page page refl;
       shown = record { shown = step.0; is = step.1; has = row.1 };
+      kind = step.2.0;
       from = omega (arith, same);
       to = omega (arith, same);
       link = subst B row.3.2 (subst A row.3.1 link);

@@ -9,3 +9,6 @@ pub mod EndLemmas
 pub mod LastLemmas
 pub mod MissLemmas
 pub mod TouchedLemmas
+pub mod LeavesLemmas
+pub mod InsideLemmas
+pub mod WholeLemmas

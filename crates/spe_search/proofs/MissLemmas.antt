@@ -101,6 +101,7 @@ misses_visit g early mid late page low high shown result used laid legal is look
       record {
         shown = shown;
         is = is pages agrees;
+        kind = link.0;
         leaf = λ cells e. sym (ap (λ (x : Shown). x.kind) (legal pages agrees cells e)) ∙ link.0;
         link = link.2;
       },

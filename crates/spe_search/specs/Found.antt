@@ -26,8 +26,8 @@ FindsBelow g early late page rowid levels result =
     → Answers (λ row. row) (row_at rowid (tree_rows (g.used early) (sight g early pages) height page)) result
 
 -- The same of the tree of a table under its root.
-abbrev pub Finds : {P : Type 0} (g : Ghosts P) (early late : P) (root : ℕ) (rowid : ℤ) (result : Result (Option (List ℕ)) TreeFault) → Type 0
-Finds g early late root rowid result =
+abbrev pub FindsPayload : {P : Type 0} (g : Ghosts P) (early late : P) (root : ℕ) (rowid : ℤ) (result : Result (Option (List ℕ)) TreeFault) → Type 0
+FindsPayload g early late root rowid result =
     (pages : Paging) → Agrees pages (g.seen late)
     → (height : ℕ) → IsTableTree (g.used early) (sight g early pages) height root
     → Answers (λ row. row) (row_at rowid (tree_rows (g.used early) (sight g early pages) height root)) result

@@ -3,3 +3,5 @@ pub mod Found
 pub mod Pairs
 pub mod Range
 pub mod Last
+pub mod Leaves
+pub mod Inside

@@ -135,6 +135,7 @@ MissesInLook g early late shown low high result =
 pub record IsLinkAt (usable : ℕ) (pages : Paging) (page low high n : ℕ) : Type 0 where
   pub shown : Shown
   pub is : shown_at (used_of usable pages page) (header_end page) ≡ Ok shown
+  pub kind : shown.kind ≡ TableLeaf
   pub leaf : (cells : PageCells) → node_at usable pages page ≡ Ok cells → cells.kind ≡ TableLeaf
   pub link : IsLinkOf usable pages shown.cells low high n
 
@@ -171,10 +172,13 @@ WalksBelow g early late page low high levels old new result =
     → Pushes (between low high (tree_rows (g.used early) (sight g early pages) height page)) old new result
 
 -- the rows of the tree of a table between two rowids
-abbrev pub FindsRange : {P : Type 0} (g : Ghosts P) (early late : P) (root : ℕ) (low high : ℤ) (result : Result (List (ℤ × List ℕ)) TreeFault) → Type 0
-FindsRange g early late root low high result =
+abbrev pub FindsBetween : {P X : Type 0} (g : Ghosts P) (early late : P) (root : ℕ) (low high : ℤ) (view : X → List (ℤ × List ℕ)) (result : Result X TreeFault) → Type 0
+FindsBetween g early late root low high view result =
     (pages : Paging) → Agrees pages (g.seen late) → (height : ℕ) → IsTableTree (g.used early) (sight g early pages) height root
-    → Answers (λ rows. rows) (between (rank low) (rank high) (tree_rows (g.used early) (sight g early pages) height root)) result
+    → Answers view (between (rank low) (rank high) (tree_rows (g.used early) (sight g early pages) height root)) result
+
+abbrev pub FindsRange : {P : Type 0} (g : Ghosts P) (early late : P) (root : ℕ) (low high : ℤ) (result : Result (List (ℤ × List ℕ)) TreeFault) → Type 0
+FindsRange g early late root low high result = FindsBetween g early late root low high (λ rows. rows) result
 
 -- the pages of a tree that a walk over the rows between two rowids touches, by rank
 abbrev pub touched_pages : (usable : ℕ) (pages : Paging) (low high height page : ℕ) → List ℕ
@@ -187,12 +191,18 @@ abbrev pub TouchesTheTree : Type 0
 TouchesTheTree = (usable : ℕ) (pages : Paging) (low high height page n : ℕ)
     → Contains (touched_pages usable pages low high height page) n → Contains (tree_pages usable pages height page) n
 
+-- all rows of a table are between the least and the greatest rowid
+abbrev pub SpansTheTable : Type 0
+SpansTheTable = (usable : ℕ) (pages : Paging) (height root : ℕ) → IsTableTree usable pages height root
+    → between 0 18446744073709551615 (tree_rows usable pages height root) ≡ tree_rows usable pages height root
+
 -- a page of the chain of a row between the two rowids
 pub record IsOverflowBetween (usable : ℕ) (pages : Paging) (low high height page at : ℕ) : Type 0 where
   pub leaf : ℕ
   pub row : Cell
   pub inside : Contains (touched_pages usable pages low high height page) leaf
   pub shown : ShowsCell usable pages leaf row
+  pub kind : shown.shown.kind ≡ TableLeaf
   pub from : low ≤ rank row.key
   pub to : rank row.key ≤ high
   pub link : IsLink usable pages (rest_of row) row.chain at

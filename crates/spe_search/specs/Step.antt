@@ -76,7 +76,7 @@ Leads page rowid (Child child) = (page.kind ≡ TableInterior) × (child ≡ chi
 -- the page shows what the step takes
 abbrev pub IsShown : Shown → ℤ → Step → Type 0
 IsShown shown rowid Missing = Unit {0}
-IsShown shown rowid (Row found) = HasFound shown.cells rowid (Some found)
+IsShown shown rowid (Row found) = (shown.kind ≡ TableLeaf) × HasFound shown.cells rowid (Some found)
 IsShown shown rowid (Child child) = HasChild shown.cells shown.right child
 
 -- no legal page of a table shows this

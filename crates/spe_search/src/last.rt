@@ -4,6 +4,7 @@ ghost use Rattle.std.specs.Prelude.{◌≡◌, ◌≢◌, ℕ, None, length, IfE
 ghost use Rattle.spe_space.specs.Calls.{Reads, RefusesTree};
 ghost use Rattle.spe_space.specs.Found.{OnMissing};
 ghost use Rattle.spe_search.specs.Last.{EndsLeaf, FindsEnd, FindsLeft, GivesEnd, GivesLeft, LastBelow, FindsLast, NamesPage, AddsAtEnd, AddsOfLast, MissesAtEnd, MissesInLast};
+ghost use Rattle.spe_search.specs.Inside.{MissesTree};
 
 use crate::search::header_of;
 use spe_format::PageView;
@@ -159,6 +160,7 @@ pub fn largest<S: Pages>(alloc: Global, space: &mut S, root: u32) -> Result<Opti
     ensures damage { NamesPage S.Pages space.old space.new root 20 result }
     ensures adds { AddsOfLast S.Pages space.old space.new root }
     ensures page_out { MissesInLast S.Pages space.old space.new root result }
+    ensures inside { MissesTree S.Pages space.old space.new root result }
     ensures kept { Reads S.Pages space.old space.new }
     ensures refusal { RefusesTree S.Pages space.old space.new result }
 {

@@ -13,7 +13,7 @@ mod rows;
 mod search;
 
 pub use last::largest;
-pub use law::touches_the_tree;
-pub use pairs::{Pair, Pairs};
-pub use rows::range;
+pub use law::{spans_the_table, touches_the_tree};
+pub use pairs::{LeafPairs, Pair, Pairs};
+pub use rows::{range, range_with_leaves};
 pub use search::find;

@@ -7,11 +7,12 @@ use spe_model::Bytes;
 use std::alloc::{AllocError, Global};
 use std::marker::Model;
 
-/// A row: its rowid and its payload.
+/// A row: its rowid and its payload, and the leaf page that it was read from.
 #[derive(Debug, Drop)]
 pub struct Pair {
     pub rowid: i64,
     pub payload: Bytes,
+    pub leaf: u32,
 }
 
 /// Rows in the order of their rowids, seen as a list of rowids and payloads.
@@ -39,9 +40,43 @@ impl Pairs {
         }
     }
 
+    /// The rows as a slice.
+    pub fn as_slice(&self) -> &[Pair]
+        ensures { map pair_seen result.now ≡ self.now }
+    {
+        self.inner.as_slice()
+    }
+}
+
+/// Rows in the order of their rowids with the leaves that they were read from, seen as a list of `Pair`.
+#[derive(Debug, Drop)]
+pub struct LeafPairs {
+    inner: Vec<Pair>,
+}
+
+impl Model for LeafPairs {
+    ghost use Rattle.std.specs.Prelude.{List};
+    ghost use Rattle.spe_search.specs.declared.pairs.Pair.{Pair as Row};
+
+    ghost Value = { List Row };
+
+    ghost view = { λ t. t.inner.items };
+}
+
+impl LeafPairs {
+    /// No rows.
+    pub fn new(alloc: Global) -> LeafPairs
+        ensures { result ≡ [] }
+    {
+        LeafPairs {
+            inner: Vec::new(alloc),
+        }
+    }
+
     /// Adds a row at the end.
     pub fn push(&mut self, pair: Pair) -> Result<(), AllocError>
-        ensures { OnOk result (self.new ≡ self.old ++ pair_seen pair ∷ []) }
+        ensures pairs { OnOk result (self.new ≡ self.old ++ pair ∷ []) }
+        ensures rows { OnOk result (map pair_seen self.new ≡ map pair_seen self.old ++ pair_seen pair ∷ []) }
     {
         self.inner.push(pair)?;
         Ok(())
@@ -49,8 +84,16 @@ impl Pairs {
 
     /// The rows as a slice.
     pub fn as_slice(&self) -> &[Pair]
-        ensures { map pair_seen result.now ≡ self.now }
+        ensures { result.now ≡ self.now }
     {
         self.inner.as_slice()
+    }
+
+    /// The rows without their leaves.
+    pub fn into_pairs(self) -> Pairs
+        ensures { result ≡ map pair_seen self }
+    {
+        let LeafPairs { inner } = self;
+        Pairs { inner }
     }
 }

@@ -1,17 +1,20 @@
 //! Rows between two rowids.
 
-ghost use Rattle.std.specs.Prelude.{◌≡◌, ◌≤◌, ◌<◌, ◌⊎◌, ◌≢◌, ℕ, ℤ, List, [], ◌∷◌, ◌++◌, None, IfOk, OnOk, length, nat_le, ◌&&◌};
+ghost use Rattle.std.specs.Prelude.{◌≡◌, ◌≤◌, ◌<◌, ◌⊎◌, ◌≢◌, ℕ, ℤ, List, [], ◌∷◌, ◌++◌, None, IfOk, OnOk, length, map, nat_le, ◌&&◌, true, false};
 ghost use Rattle.spe_format.specs.View.{cell_seen};
 ghost use Rattle.spe_space.specs.Calls.{Reads, RefusesTree};
 ghost use Rattle.spe_space.specs.Found.{MissesInChain};
 ghost use Rattle.spe_model.specs.Tree.{rank, rest_of};
 ghost use Rattle.spe_search.specs.Step.{IsFoundIn};
-ghost use Rattle.spe_search.specs.Range.{PushesRow, PushesRows, RowDamage, RowsDamage, AddsOfRow, AddsOfRows, AddsOfLook, AddsOfVisit, AddsOfRange, MissesInRows, MissesInLook, MissesInVisit, MissesInRange, ListsChildren, LooksAtLeaf, LooksAtInterior, LookDamage, Visits, VisitDamage, WalksBelow, FindsRange};
+ghost use Rattle.spe_search.specs.Range.{PushesRow, PushesRows, RowDamage, RowsDamage, AddsOfRow, AddsOfRows, AddsOfLook, AddsOfVisit, AddsOfRange, MissesInRows, MissesInLook, MissesInVisit, MissesInRange, ListsChildren, LooksAtLeaf, LooksAtInterior, LookDamage, Visits, VisitDamage, WalksBelow, FindsRange, FindsBetween};
+ghost use Rattle.spe_search.specs.Inside.{MissesTree};
+ghost use Rattle.spe_search.specs.Leaves.{TakesRow, TakesRows, TakesVisit, TakesWalk, TellsLeaves};
+ghost use Rattle.spe_search.specs.Pairs.{pair_seen};
 ghost use Rattle.spe_search.specs.Found.{NamesDamage};
 ghost use Rattle.spe_model.specs.declared.page.Kind.TheVariants.{TableLeaf, TableInterior};
 
 use crate::page::{Found, key_of, rank_of};
-use crate::pairs::{Pair, Pairs};
+use crate::pairs::{LeafPairs, Pair, Pairs};
 use crate::search::{header_of, whole_of};
 use spe_format::{PageView, Parts};
 use spe_model::{Bytes, Kind};
@@ -42,24 +45,23 @@ fn push_row<S: Pages>(
     page: u32,
     parts: &Parts<'_>,
     buf: &mut [u8],
-    out: &mut Pairs,
+    out: &mut LeafPairs,
 ) -> Result<(), TreeFault>
     requires { length buf.old ≡ S.Pages.size space.old }
-    ensures rows { PushesRow S.Pages space.old space.new (cell_seen parts.now) out.old out.new result }
+    ensures rows { PushesRow S.Pages space.old space.new (cell_seen parts.now) (map pair_seen out.old) (map pair_seen out.new) result }
     ensures damage { RowDamage S.Pages space.old space.new page (cell_seen parts.now) result }
+    ensures leaf { TakesRow S.Pages space.old space.new page (cell_seen parts.now) out.old out.new result }
     ensures adds { AddsOfRow S.Pages space.old space.new (cell_seen parts.now) }
     ensures page_out { MissesInChain S.Pages space.old space.new (cell_seen parts.now).chain (rest_of (cell_seen parts.now)) result }
     ensures kept { Reads S.Pages space.old space.new }
     ensures refusal { RefusesTree S.Pages space.old space.new result }
 {
     let found = found_in(alloc, parts)?;
-    let payload = match whole_of(space, page, found, buf) {
-        Ok(payload) => payload,
-        Err(fault) => return Err(fault),
-    };
+    let payload = whole_of(space, page, found, buf)?;
     out.push(Pair {
         rowid: parts.key,
         payload,
+        leaf: page,
     })?;
     Ok(())
 }
@@ -73,11 +75,12 @@ fn push_rows<S: Pages>(
     low: u64,
     high: u64,
     buf: &mut [u8],
-    out: &mut Pairs,
+    out: &mut LeafPairs,
 ) -> Result<(), TreeFault>
     requires { length buf.old ≡ S.Pages.size space.old }
-    ensures rows { PushesRows S.Pages space.old space.new view.now.cells low high out.old out.new result }
+    ensures rows { PushesRows S.Pages space.old space.new view.now.cells low high (map pair_seen out.old) (map pair_seen out.new) result }
     ensures damage { RowsDamage S.Pages space.old space.new page view.now.cells result }
+    ensures leaf { TakesRows S.Pages space.old space.new page view.now.cells out.old out.new result }
     ensures adds { AddsOfRows S.Pages space.old space.new view.now.cells low high }
     ensures page_out { MissesInRows S.Pages space.old space.new view.now.cells low high result }
     ensures kept { Reads S.Pages space.old space.new }
@@ -100,6 +103,14 @@ fn push_rows<S: Pages>(
     Ok(())
 }
 
+// Whether the rows up to this rank are under the child of a cell with this key, or under one before it.
+fn is_last(high: u64, key: u64) -> bool
+    ensures last { result ≡ true → high ≤ key }
+    ensures more { result ≡ false → key < high }
+{
+    high <= key
+}
+
 // The children of an interior page under which rows with ranks from `low` to `high` may be. `None`
 // where a cell can't be read.
 fn children_in(
@@ -120,7 +131,7 @@ fn children_in(
         let key = key_of(&parts);
         if low <= key {
             children.push(parts.left)?;
-            if high <= key {
+            if is_last(high, key) {
                 return Ok(Some(children));
             }
         }
@@ -139,22 +150,24 @@ fn look<S: Pages>(
     low: u64,
     high: u64,
     buf: &mut [u8],
-    out: &mut Pairs,
+    out: &mut LeafPairs,
 ) -> Result<Vec<u32>, TreeFault>
     requires { length buf.old ≡ S.Pages.size space.old }
-    ensures leaf { view.now.kind ≡ TableLeaf → LooksAtLeaf S.Pages space.old space.new view.now.cells low high out.old out.new result }
-    ensures interior { view.now.kind ≡ TableInterior → LooksAtInterior view.now.cells view.now.right low high out.old out.new result }
+    ensures leaf { view.now.kind ≡ TableLeaf → LooksAtLeaf S.Pages space.old space.new view.now.cells low high (map pair_seen out.old) (map pair_seen out.new) result }
+    ensures interior { view.now.kind ≡ TableInterior → LooksAtInterior view.now.cells view.now.right low high (map pair_seen out.old) (map pair_seen out.new) result }
     ensures damage { LookDamage S.Pages space.old space.new page view.now result }
+    ensures taken { view.now.kind ≡ TableLeaf → TakesRows S.Pages space.old space.new page view.now.cells out.old out.new result }
+    ensures none { view.now.kind ≢ TableLeaf → OnOk result (out.new ≡ out.old) }
     ensures adds { AddsOfLook S.Pages space.old space.new view.now low high }
     ensures page_out { MissesInLook S.Pages space.old space.new view.now low high result }
     ensures kept { Reads S.Pages space.old space.new }
     ensures refusal { RefusesTree S.Pages space.old space.new result }
 {
     match view.kind() {
-        Kind::TableLeaf => match push_rows(alloc, space, page, view, low, high, buf, out) {
-            Ok(()) => Ok(Vec::new(alloc)),
-            Err(fault) => Err(fault),
-        },
+        Kind::TableLeaf => {
+            push_rows(alloc, space, page, view, low, high, buf, out)?;
+            Ok(Vec::new(alloc))
+        }
         Kind::TableInterior => match children_in(alloc, view, low, high)? {
             Some(children) => Ok(children),
             None => Err(TreeFault::Corrupt { page }),
@@ -172,12 +185,13 @@ fn visit<S: Pages>(
     high: u64,
     buf: &mut [u8],
     spare: &mut [u8],
-    out: &mut Pairs,
+    out: &mut LeafPairs,
 ) -> Result<Vec<u32>, TreeFault>
     requires size { length buf.old ≡ S.Pages.size space.old }
     requires spare { length spare.old ≡ S.Pages.size space.old }
-    ensures visits { Visits S.Pages space.old space.new page low high out.old out.new result }
+    ensures visits { Visits S.Pages space.old space.new page low high (map pair_seen out.old) (map pair_seen out.new) result }
     ensures damage { VisitDamage S.Pages space.old space.new page result }
+    ensures leaves { TakesVisit S.Pages space.old space.new page out.old out.new result }
     ensures adds { AddsOfVisit S.Pages space.old space.new page low high }
     ensures page_out { MissesInVisit S.Pages space.old space.new page low high result }
     ensures kept { Reads S.Pages space.old space.new }
@@ -201,12 +215,13 @@ fn walk<S: Pages>(
     levels: u32,
     buf: &mut [u8],
     spare: &mut [u8],
-    out: &mut Pairs,
+    out: &mut LeafPairs,
 ) -> Result<(), TreeFault>
     requires size { length buf.old ≡ S.Pages.size space.old }
     requires spare { length spare.old ≡ S.Pages.size space.old }
-    ensures rows { WalksBelow S.Pages space.old space.new page low high levels out.old out.new result }
+    ensures rows { WalksBelow S.Pages space.old space.new page low high levels (map pair_seen out.old) (map pair_seen out.new) result }
     ensures damage { NamesDamage S.Pages space.old space.new page levels result }
+    ensures leaves { TakesWalk S.Pages space.old space.new page levels out.old out.new result }
     ensures adds { AddsOfRange S.Pages space.old space.new page low high }
     ensures page_out { MissesInRange S.Pages space.old space.new page low high result }
     ensures kept { Reads S.Pages space.old space.new }
@@ -231,28 +246,31 @@ fn walk<S: Pages>(
 }
 
 /// The rows with rowids from `low` to `high` of the table whose tree has the page `root` as its root,
-/// in the order of their rowids.
+/// in the order of their rowids, each with the leaf that it was read from.
 ///
 /// Only the pages are got that the bounds touch, and the overflow pages of the rows. Corrupt and
-/// PageOut are as of `find`. ("B-tree Pages" in SQLite's Database File Format.)
-pub fn range<S: Pages>(
+/// PageOut are as of `find`. Whatever stands under `root`, each row is shown by its leaf, which is met
+/// on the walk. ("B-tree Pages" in SQLite's Database File Format.)
+pub fn range_with_leaves<S: Pages>(
     alloc: Global,
     space: &mut S,
     root: u32,
     low: i64,
     high: i64,
-) -> Result<Pairs, TreeFault>
+) -> Result<LeafPairs, TreeFault>
     requires { S.Pages.refusal space.old ≡ None }
-    ensures found { FindsRange S.Pages space.old space.new root low high result }
+    ensures found { FindsBetween S.Pages space.old space.new root low high (map pair_seen) result }
+    ensures leaves { TellsLeaves S.Pages space.old space.new root result }
     ensures damage { NamesDamage S.Pages space.old space.new root 20 result }
     ensures adds { AddsOfRange S.Pages space.old space.new root (rank low) (rank high) }
     ensures page_out { MissesInRange S.Pages space.old space.new root (rank low) (rank high) result }
+    ensures inside { MissesTree S.Pages space.old space.new root result }
     ensures kept { Reads S.Pages space.old space.new }
     ensures refusal { RefusesTree S.Pages space.old space.new result }
 {
     let mut buf = vec![in alloc; 0u8; space.page_size() as usize]?;
     let mut spare = vec![in alloc; 0u8; space.page_size() as usize]?;
-    let mut out = Pairs::new(alloc);
+    let mut out = LeafPairs::new(alloc);
     match walk(
         alloc,
         space,
@@ -267,4 +285,28 @@ pub fn range<S: Pages>(
         Ok(()) => Ok(out),
         Err(fault) => Err(fault),
     }
+}
+
+/// The rows with rowids from `low` to `high` of the table whose tree has the page `root` as its root,
+/// in the order of their rowids.
+///
+/// All is as of `range_with_leaves`, but for the leaves.
+pub fn range<S: Pages>(
+    alloc: Global,
+    space: &mut S,
+    root: u32,
+    low: i64,
+    high: i64,
+) -> Result<Pairs, TreeFault>
+    requires { S.Pages.refusal space.old ≡ None }
+    ensures found { FindsRange S.Pages space.old space.new root low high result }
+    ensures damage { NamesDamage S.Pages space.old space.new root 20 result }
+    ensures adds { AddsOfRange S.Pages space.old space.new root (rank low) (rank high) }
+    ensures page_out { MissesInRange S.Pages space.old space.new root (rank low) (rank high) result }
+    ensures inside { MissesTree S.Pages space.old space.new root result }
+    ensures kept { Reads S.Pages space.old space.new }
+    ensures refusal { RefusesTree S.Pages space.old space.new result }
+{
+    let rows = range_with_leaves(alloc, space, root, low, high)?;
+    Ok(rows.into_pairs())
 }

@@ -4,7 +4,8 @@ ghost use Rattle.std.specs.Prelude.{◌≡◌, ◌≢◌, ◌≤◌, ◌⊎◌, 
 ghost use Rattle.spe_model.specs.Tree.{header_end, rank};
 ghost use Rattle.spe_space.specs.Calls.{Reads, RefusesTree};
 ghost use Rattle.spe_space.specs.Found.{AddsOfChain, MissesInChain, OnMissing, ReadsChain};
-ghost use Rattle.spe_search.specs.Found.{GivesStep, GivesWhole, NamesRow, Finds, FindsBelow, NamesDamage};
+ghost use Rattle.spe_search.specs.Found.{GivesStep, GivesWhole, NamesRow, FindsPayload, FindsBelow, NamesDamage};
+ghost use Rattle.spe_search.specs.Inside.{MissesTree};
 ghost use Rattle.spe_search.specs.Range.{AddsOfRange, MissesInRange};
 
 use crate::page::{Flaw, Found, Step, step_in};
@@ -64,10 +65,8 @@ pub fn whole_of<S: Pages>(
     }
     let Found { local, rest, chain } = found;
     let mut whole = local.into_vec();
-    match extend_by_chain(space, chain, rest, buf, &mut whole) {
-        Ok(()) => Ok(Bytes::new(whole)),
-        Err(fault) => Err(fault),
-    }
+    extend_by_chain(space, chain, rest, buf, &mut whole)?;
+    Ok(Bytes::new(whole))
 }
 
 // The row of which the leaf `page` has the beginning.
@@ -85,10 +84,8 @@ fn row_of<S: Pages>(
     ensures kept { Reads S.Pages space.old space.new }
     ensures refusal { RefusesTree S.Pages space.old space.new result }
 {
-    match whole_of(space, page, found, buf) {
-        Ok(payload) => Ok(Some(payload)),
-        Err(fault) => Err(fault),
-    }
+    let payload = whole_of(space, page, found, buf)?;
+    Ok(Some(payload))
 }
 
 // The payload of a row, at most so many levels below a page. `buf` is one page long and is written
@@ -134,10 +131,11 @@ pub fn find<S: Pages>(
     rowid: i64,
 ) -> Result<Option<Bytes>, TreeFault>
     requires { S.Pages.refusal space.old ≡ None }
-    ensures found { Finds S.Pages space.old space.new root rowid result }
+    ensures found { FindsPayload S.Pages space.old space.new root rowid result }
     ensures damage { NamesDamage S.Pages space.old space.new root 20 result }
     ensures adds { AddsOfRange S.Pages space.old space.new root (rank rowid) (rank rowid) }
     ensures page_out { MissesInRange S.Pages space.old space.new root (rank rowid) (rank rowid) result }
+    ensures inside { MissesTree S.Pages space.old space.new root result }
     ensures kept { Reads S.Pages space.old space.new }
     ensures refusal { RefusesTree S.Pages space.old space.new result }
 {

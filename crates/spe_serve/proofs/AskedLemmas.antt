@@ -1,57 +1,32 @@
 -- The pages that are asked for where the pages stand for a database: each is one of these.
-use Rattle.std.proofs.Common.{◌≡◌, ◌⊎◌, inl, inr, ℕ, zero, suc, ℤ, ◌<◌, Bool, true, false, not, ◌==◌, List, [], ◌∷◌, ◌++◌, Option, Some, None, Err, All, is_some, refl, sym, ap, ◌∙◌, subst, arith, append_assoc}
+use Rattle.std.proofs.Common.{◌≡◌, ℕ, ℤ, Bool, true, false, not, ◌==◌, List, [], ◌∷◌, ◌++◌, Option, Some, None, Err, All, is_some, refl, ap, ◌∙◌, subst, append_assoc}
 use Rattle.std.specs.List.{Contains, find, flat_map}
 use Rattle.std.proofs.lemmas.List.Elements.{All-cons, All-head, All-nil, All-tail}
 use Rattle.spe_model.specs.declared.catalog.Entry.{Entry}
 use Rattle.spe_model.specs.Database.{Database}
-use Rattle.spe_model.specs.Paging.{Paging, Agrees}
+use Rattle.spe_model.specs.Paging.{Paging}
 use Rattle.spe_model.specs.Schema.{SchemaRow, is_table_row, is_index_page, is_closed_by, is_rooted, root_of, table_of, entry_of, catalog_of}
 use Rattle.spe_model.specs.Standing.{Whether, Tree, HasTree, AreEntries, StandsFor, all_pages, pages_of_some}
 use Rattle.spe_model.specs.Tree.{tree_rows}
-use Rattle.spe_space.specs.Calls.{Reads, sight}
-use Rattle.spe_space.specs.Found.{OnMissing, missing_weaker}
+use Rattle.spe_space.specs.Calls.{sight}
+use Rattle.spe_space.specs.Found.{missing_weaker}
 use Rattle.spe_space.specs.Outcome.{IsInside}
 use Rattle.spe_space.specs.declared.pages.Pages.{Ghosts}
 use Rattle.spe_space.specs.declared.fault.TreeFault.{TreeFault}
-use Rattle.spe_search.specs.Range.{IsOverflowBetween, MissesInRange, touched_pages}
-use Rattle.spe_catalog.specs.Asks.{IsCatalogMiss, MissesOfCatalog, MissesOnWay}
+use Rattle.spe_search.specs.Inside.{MissesTree}
 use Rattle.spe_catalog.specs.Reader.{IsCatalog}
 use Rattle.spe_serve.specs.declared.reply.Reply.{Reply}
 use Rattle.spe_serve.specs.Space.{AsksOfRows, GrowsInside, entry_named, is_named}
-use Rattle.spe_serve.proofs.InsideLemmas.{all_behind, all_front, between_inside, touched_inside, tree_inside}
-use Rattle.spe_serve.proofs.NumberLemmas.{root_first}
+use Rattle.spe_serve.proofs.InsideLemmas.{all_behind, all_front, one_of}
 use Rattle.spe_serve.proofs.TableLemmas.{and_both, no_reason, not_root, part_of, rooted_if, some_same}
 
 -- a walk over the rows of a table
-pub range_asks : {P : Type 0} (g : Ghosts P) (early late : P) (entry : Entry) (low high : ℕ) (fault : TreeFault) → MissesInRange {X = Reply} g early late entry.root low high (Err fault)
+pub range_asks : {P : Type 0} (g : Ghosts P) (early late : P) (entry : Entry) (fault : TreeFault) → MissesTree {X = Reply} g early late entry.root (Err fault)
     → AsksOfRows g early late entry (Err fault)
-range_asks g early late entry low high fault misses pages agrees count grows =
-    let usable = g.used early in
-    let view = sight g early pages in
-    let tree = grows.tree.1 in
-    missing_weaker
-    (λ at. Contains (touched_pages usable view low high grows.height entry.root) at ⊎ ((0 < at) × IsOverflowBetween usable view low high grows.height entry.root at))
-    (IsInside count) fault
-    (λ n asked. elim asked [
-      | inl own ↦ touched_inside (IsInside count) usable view low high grows.height 0 18446744073709551616 entry.root n tree grows.within own
-      | inr over ↦ between_inside (IsInside count) usable view low high grows.height 0 18446744073709551616 entry.root n tree grows.within over.1
-    ])
-    (misses pages agrees grows.height 0 18446744073709551616 tree)
-
--- a walk to a leaf of it, after another
-pub way_asks : {P : Type 0} (g : Ghosts P) (early mid late : P) (entry : Entry) (key : ℕ) (fault : TreeFault) → Reads g early mid
-    → MissesOnWay {X = ℕ} g mid late entry.root key (Err fault) → AsksOfRows g early late entry (Err fault)
-way_asks g early mid late entry key fault kept misses pages agrees count grows =
-    let usable = g.used early in
-    let view = sight g early pages in
-    missing_weaker (Contains (touched_pages usable view key key grows.height entry.root)) (IsInside count) fault
-    (λ n has. touched_inside (IsInside count) usable view key key grows.height 0 18446744073709551616 entry.root n grows.tree.1 grows.within has)
-    ((rw (kept.laid, kept.used) at (misses pages agrees grows.height 0 18446744073709551616)) grows.tree.1)
-
-some_root : (usable count : ℕ) (pages : Paging) (root : ℕ) (grown : Option Tree) (more : List ℕ) → 0 < root → HasTree usable pages root grown
-    → All (IsInside count) (pages_of_some usable pages grown ++ more) → IsInside count root
-some_root usable count pages root None more some tree all = absurd (omega (arith, some, tree))
-some_root usable count pages root (Some t) more some tree all = subst (IsInside count) tree.1 (root_first (IsInside count) usable pages t.height t.root more all)
+range_asks g early late entry fault misses pages agrees count grows =
+    missing_weaker (Contains (all_pages (g.used early) (sight g early pages) grows.height entry.root)) (IsInside count) fault
+    (λ n has. one_of (IsInside count) _ n grows.within has)
+    (misses pages agrees grows.height grows.tree)
 
 -- pages of the trees behind the first
 rest_inside : (usable count : ℕ) (pages : Paging) (t : Option Tree) (ts : List (Option Tree)) (more : List ℕ)
@@ -60,54 +35,13 @@ rest_inside : (usable count : ℕ) (pages : Paging) (t : Option Tree) (ts : List
 rest_inside usable count pages t ts more all =
     subst (All (IsInside count)) (append_assoc (pages_of_some usable pages t) (flat_map (pages_of_some usable pages) ts) more) all
 
--- the root page of a row of the schema
-row_inside : (usable count : ℕ) (pages : Paging) (all rows : List SchemaRow) (trees : List (Option Tree)) (db : Database) (more : List ℕ) (row : SchemaRow)
-    → AreEntries usable pages all rows trees db → All (IsInside count) (flat_map (pages_of_some usable pages) trees ++ more) → Contains rows row
-    → 0 < root_of row.rootpage → IsInside count (root_of row.rootpage)
-row_inside usable count pages all [] trees db more row h within (k, lt, is) some = absurd (omega (arith, lt))
-row_inside usable count pages all (r ∷ rs) [] db more row h within has some = absurd h
-row_inside usable count pages all (r ∷ rs) (t ∷ ts) [] more row h within has some = absurd h
-row_inside usable count pages all (r ∷ rs) (t ∷ ts) (o ∷ os) more row h within (zero, lt, is) some =
-    some_root usable count pages (root_of row.rootpage) t _ some (subst (λ (x : SchemaRow). HasTree usable pages (root_of x.rootpage) t) is h.0.tree)
-    (rest_inside usable count pages t ts more within)
-row_inside usable count pages all (r ∷ rs) (t ∷ ts) (o ∷ os) more row h within (suc k, lt, is) some =
-    row_inside usable count pages all rs ts os more row h.1
-    (all_behind (IsInside count) (pages_of_some usable pages t) _ (rest_inside usable count pages t ts more within)) (k, omega (arith, lt), is) some
-
-record AreInside (usable count : ℕ) (pages : Paging) (height : ℕ) (trees : List (Option Tree)) (listed : List ℕ) : Type 0 where
-  schema : All (IsInside count) (all_pages usable pages height 1)
-  others : All (IsInside count) (flat_map (pages_of_some usable pages) trees ++ listed)
-
-parts_inside : (usable count : ℕ) (pages : Paging) (db : Database) (stands : StandsFor usable count pages db)
-    → AreInside usable count pages stands.height stands.trees stands.listed
-parts_inside usable count pages db stands =
+trees_inside : (usable count : ℕ) (pages : Paging) (db : Database) (stands : StandsFor usable count pages db)
+    → All (IsInside count) (flat_map (pages_of_some usable pages) stands.trees ++ stands.listed)
+trees_inside usable count pages db stands =
     let schema = all_pages usable pages stands.height 1 in
     let trees = flat_map (pages_of_some usable pages) stands.trees in
-    let within : All (IsInside count) (schema ++ (trees ++ stands.listed)) = subst (All (IsInside count)) (append_assoc schema trees stands.listed) stands.within in
-    record { schema = all_front (IsInside count) schema (trees ++ stands.listed) within; others = all_behind (IsInside count) schema (trees ++ stands.listed) within }
-
--- a page that the catalog is read from
-catalog_page : (usable count : ℕ) (pages : Paging) (db : Database) (n : ℕ) (stands : StandsFor usable count pages db) → IsCatalogMiss usable pages stands.height n → IsInside count n
-catalog_page usable count pages db n stands asked =
-    let parts = parts_inside usable count pages db stands in
-    elim asked [
-      | inl own ↦ tree_inside (IsInside count) usable pages stands.height 0 18446744073709551616 1 n stands.schema.1 parts.schema own
-      | inr (inl over) ↦ between_inside (IsInside count) usable pages 0 18446744073709551615 stands.height 0 18446744073709551616 1 n stands.schema.1 parts.schema over.1
-      | inr (inr root) ↦
-          let same : root.rows ≡ stands.rows = some_same stands.rows root.rows _ stands.rows_are root.read.rows_are in
-          let is = root.root.root in
-          subst (IsInside count) is.0
-          (row_inside usable count pages stands.rows stands.rows stands.trees db stands.listed root.root.row stands.entries parts.others
-          (subst (λ (rs : List SchemaRow). Contains rs root.root.row) same root.root.is) (subst (λ (m : ℕ). 0 < m) (sym is.0) is.1))
-    ]
-
-pub catalog_asks : {P : Type 0} (g : Ghosts P) (early late : P) (fault : TreeFault) → MissesOfCatalog {X = Reply} g early late (Err fault) → (pages : Paging) → Agrees pages (g.seen late)
-    → (count : ℕ) (db : Database) → StandsFor (g.used early) count (sight g early pages) db → OnMissing (IsInside count) fault
-catalog_asks g early late fault misses pages agrees count db stands =
-    let usable = g.used early in
-    let view = sight g early pages in
-    missing_weaker (IsCatalogMiss usable view stands.height) (IsInside count) fault (λ n asked. catalog_page usable count view db n stands asked)
-    (misses pages agrees stands.height stands.schema)
+    all_behind (IsInside count) schema (trees ++ stands.listed)
+    (subst (All (IsInside count)) (append_assoc schema trees stands.listed) stands.within)
 
 -- the tree of a table that is open
 open_inside : (usable count : ℕ) (pages : Paging) (page : Option ℤ) (grown : Option Tree) (more : List ℕ) → HasTree usable pages (root_of page) grown
@@ -165,4 +99,4 @@ named_inside usable count pages catalog db name entry stands is found =
     let rows : is.rows ≡ stands.rows = some_same stands.rows is.rows _ stands.rows_are is.rows_are in
     let same : catalog ≡ catalog_of (is_index_page pages) stands.rows = is.tables ∙ ap (catalog_of (is_index_page pages)) rows in
     find_such (IsEntryInside usable count pages) (is_named name) catalog entry
-    (rw same (entries_inside usable count pages stands.rows stands.rows stands.trees db stands.listed stands.entries (parts_inside usable count pages db stands).others)) found
+    (rw same (entries_inside usable count pages stands.rows stands.rows stands.trees db stands.listed stands.entries (trees_inside usable count pages db stands))) found

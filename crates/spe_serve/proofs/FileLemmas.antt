@@ -1,5 +1,5 @@
 -- The answers over the pages that recovery found in the files.
-use Rattle.std.proofs.Common.{◌≡◌, ℕ, ◌-◌, List, take, Option, Some, None, Result, Ok, Err, IfErr, IfOk, IfSome, arith, refl, sym, ap, ◌∙◌, subst}
+use Rattle.std.proofs.Common.{◌≡◌, ℕ, ◌-◌, List, take, true, Option, Some, None, Result, Ok, Err, IfErr, IfOk, IfSome, arith, refl, sym, ap, ◌∙◌, subst}
 use Rattle.spe_model.specs.declared.recovery.Recovered.{Recovered}
 use Rattle.spe_model.specs.declared.recovery.RecoverFault.{RecoverFault}
 use Rattle.spe_model.specs.declared.recovery.RecoverFault.TheVariants as refusals
@@ -21,14 +21,17 @@ use Rattle.spe_check.specs.Found.{GivesFound}
 use Rattle.spe_check.specs.Held.{held_pages, told_pages}
 use Rattle.spe_recover.specs.declared.want.Want.TheVariants.{Any}
 use Rattle.spe_recover.specs.Recovered.{HasPages, IsRefusal}
-use Rattle.spe_recover.specs.Told.{WhereTold, WhereBothTold}
+use Rattle.spe_recover.specs.Told.{IfTold, IfBothTold}
 use Rattle.spe_words.specs.declared.command.Command.{Command}
+use Rattle.spe_words.specs.declared.command.Command.TheVariants as commands
 use Rattle.spe_serve.specs.declared.reply.Reply.{Reply}
-use Rattle.spe_serve.specs.declared.stop.Stop.{Stop}
-use Rattle.spe_serve.specs.Answer.{IsOfRecovery, IsOverPages, IsOverRecovered}
+use Rattle.spe_serve.specs.declared.reply.Reply.TheVariants as replies
+use Rattle.spe_serve.specs.declared.failure.Failure.{Failure}
+use Rattle.spe_serve.specs.Answer.{IsOfRecovery, IsOverPages, IsOverRecovered, is_built}
 use Rattle.spe_serve.specs.Ending.{refused_for}
-use Rattle.spe_serve.specs.Space.{AsksInside, Gives, HasFront}
-use Rattle.spe_serve.specs.Stop.{reply_or_stop}
+use Rattle.spe_serve.specs.Space.{AsksInside, HasFront, IsFaultAbout, Undamaged}
+use Rattle.spe_serve.specs.Failure.{reply_or_failure}
+use Rattle.spe_serve.specs.Reply.{IsAbout}
 
 abbrev used_of : Recovered → ℕ
 used_of found = found.page_size - found.reserved
@@ -52,9 +55,9 @@ answered : (found : Recovered) (content : Content) (pages : List (List ℕ)) (c 
     → IsOverPages c (used_of found) found.pages (first_of found content) reply → IsOverRecovered c pages reply
 answered found content pages c reply law is over = rw (used_is found content pages is, sym is.counted, sym (law found content pages is)) over
 
-nothing_told : (r : Result Reply Stop) → IfOk r (λ reply. Unit {0})
+nothing_told : (r : Result Reply Failure) → IfOk r (λ reply. Unit {0})
 nothing_told (Ok reply) = tt
-nothing_told (Err stop) = tt
+nothing_told (Err failure) = tt
 
 -- a page that is asked for and is none of the space's is none of so many
 abbrev pub AsksOutside : ℕ → Result Reply TreeFault → Type 0
@@ -73,13 +76,43 @@ asks_outside g old new count (Err (Space (Full pages))) reads counted kept missi
 asks_outside g old new count (Err (Space (Spoilt page))) reads counted kept missing = tt
 asks_outside g old new count (Err (Space Memory)) reads counted kept missing = tt
 
+corrupt_about : (c : Command) (count page : ℕ) → is_built c ≡ true → IsFaultAbout c count (Corrupt page) → IsAbout c (replies.Corrupt page)
+corrupt_about (commands.Rows db table) count page built fault = tt
+corrupt_about (commands.Check db) count page built fault = fault.0
+corrupt_about (commands.Prepare db lists) count page built fault = absurd cc
+corrupt_about (commands.Release db) count page built fault = absurd cc
+corrupt_about (commands.Run db scripts workers retries slots) count page built fault = absurd cc
+corrupt_about (commands.Work db seed count_of) count page built fault = absurd cc
+
+missing_about : (c : Command) (count page number : ℕ) → is_built c ≡ true → IsFaultAbout c count (Space (PageOut page number)) → (IsInside count page → ⊥)
+    → IsAbout c (replies.Corrupt page)
+missing_about (commands.Rows db table) count page number built fault outside = tt
+missing_about (commands.Check db) count page number built fault outside = absurd (outside fault.1)
+missing_about (commands.Prepare db lists) count page number built fault outside = absurd cc
+missing_about (commands.Release db) count page number built fault outside = absurd cc
+missing_about (commands.Run db scripts workers retries slots) count page number built fault outside = absurd cc
+missing_about (commands.Work db seed count_of) count page number built fault outside = absurd cc
+
+-- an answer that the command may have, also where the space refused
+pub pages_about : (c : Command) (count : ℕ) (result : Result Reply TreeFault) → is_built c ≡ true → IfOk result (IsAbout c) → IfErr result (IsFaultAbout c count)
+    → AsksOutside count result → IfOk (reply_or_failure result) (IsAbout c)
+pages_about c count (Ok reply) built about fault outside = about
+pages_about c count (Err (Corrupt page)) built about fault outside = corrupt_about c count page built fault
+pages_about c count (Err (Space (PageOut page number))) built about fault outside = missing_about c count page number built fault outside
+pages_about c count (Err (Space (Busy page word))) built about fault outside = tt
+pages_about c count (Err (Space Read)) built about fault outside = tt
+pages_about c count (Err (Space (Stopped op))) built about fault outside = tt
+pages_about c count (Err (Space (Full pages))) built about fault outside = tt
+pages_about c count (Err (Space (Spoilt page))) built about fault outside = tt
+pages_about c count (Err (Space Memory)) built about fault outside = tt
+
 told_answered : (told : Option History) (found : Recovered) (c : Command) (result : Result Reply TreeFault) → GivesFound
     → IfSome (told_pages told found.page_size found.pages)
-    (λ pages. HasFront found.page_size (used_of found) pages → Gives (IsOverPages c (used_of found) found.pages pages) result)
+    (λ pages. HasFront found.page_size (used_of found) pages → Undamaged (IsOverPages c (used_of found) found.pages pages) result)
     → IfSome (told_pages told found.page_size found.pages) (λ pages. HasFront found.page_size (used_of found) pages → AsksInside found.pages result)
     → AsksOutside found.pages result
-    → IfOk (reply_or_stop result) (λ reply. WhereTold told (λ content. (pages : List (List ℕ)) → IsFound found content pages → IsOverRecovered c pages reply))
-told_answered None found c result law over asks out = nothing_told (reply_or_stop result)
+    → IfOk (reply_or_failure result) (λ reply. IfTold told (λ content. (pages : List (List ℕ)) → IsFound found content pages → IsOverRecovered c pages reply))
+told_answered None found c result law over asks out = nothing_told (reply_or_failure result)
 told_answered (Some h) found c (Ok reply) law over asks out = λ pages is.
     answered found (present h) pages c reply law is (over (found_front found (present h) pages law is))
 told_answered (Some h) found c (Err (Corrupt page)) law over asks out = λ pages is. absurd (over (found_front found (present h) pages law is))
@@ -95,10 +128,10 @@ told_answered (Some h) found c (Err (Space Memory)) law over asks out = tt
 -- what is answered over the pages that the space tells is right over the recovered ones
 pub pages_answered : (told : Option History) (found : Recovered) (size used count : ℕ) (c : Command) (result : Result Reply TreeFault) → GivesFound
     → size ≡ found.page_size → used ≡ used_of found → count ≡ found.pages
-    → IfSome (told_pages told size count) (λ pages. HasFront size used pages → Gives (IsOverPages c used found.pages pages) result)
+    → IfSome (told_pages told size count) (λ pages. HasFront size used pages → Undamaged (IsOverPages c used found.pages pages) result)
     → IfSome (told_pages told size count) (λ pages. HasFront size used pages → AsksInside found.pages result)
     → AsksOutside found.pages result
-    → IfOk (reply_or_stop result) (λ reply. WhereTold told (λ content. (pages : List (List ℕ)) → IsFound found content pages → IsOverRecovered c pages reply))
+    → IfOk (reply_or_failure result) (λ reply. IfTold told (λ content. (pages : List (List ℕ)) → IsFound found content pages → IsOverRecovered c pages reply))
 pages_answered told found size used count c result law size_is used_is count_is over asks out =
     told_answered told found c result law (rw (size_is, used_is, count_is) at over) (rw (size_is, used_is, count_is) at asks) out
 
@@ -110,19 +143,19 @@ recovered_reply found content now c reply has settled read =
     subst (λ (r : Result (List (List ℕ)) RecoverFault). IsOfRecovery c r reply) (sym has.recovers) (read has.pages (settled has.pages has.recovers))
 
 -- what is read off the files afterwards is right over what they held before
-pub settled_reply : (old new : Option History) (found : Recovered) (c : Command) (result : Result Reply Stop) → WhereTold old (λ content. HasPages content found.pages)
-    → WhereBothTold old new (λ content now. (pages : List (List ℕ)) → recovered content ≡ Ok pages → IsFound found now pages)
+pub settled_reply : (old new : Option History) (found : Recovered) (c : Command) (result : Result Reply Failure) → IfTold old (λ content. HasPages content found.pages)
+    → IfBothTold old new (λ content now. (pages : List (List ℕ)) → recovered content ≡ Ok pages → IsFound found now pages)
     → LeavesPages old new
-    → IfOk result (λ reply. WhereTold new (λ now. (pages : List (List ℕ)) → IsFound found now pages → IsOverRecovered c pages reply))
-    → IfOk result (λ reply. WhereTold old (λ content. IsOfRecovery c (recovered content) reply))
-settled_reply old new found c (Err stop) has settled leaves read = tt
+    → IfOk result (λ reply. IfTold new (λ now. (pages : List (List ℕ)) → IsFound found now pages → IsOverRecovered c pages reply))
+    → IfOk result (λ reply. IfTold old (λ content. IsOfRecovery c (recovered content) reply))
+settled_reply old new found c (Err failure) has settled leaves read = tt
 settled_reply None new found c (Ok reply) has settled leaves read = tt
 settled_reply (Some h) None found c (Ok reply) has settled leaves read = absurd (let none = leaves.adds in cc)
 settled_reply (Some h) (Some k) found c (Ok reply) has settled leaves read = recovered_reply found (present h) (present k) c reply has settled read
 
 -- a reason that the files give is the answer
-pub refused_reply : (told : Option History) (fault : RecoverFault) (c : Command) → WhereTold told (IsRefusal Any fault)
-    → IfOk (refused_for fault) (λ reply. WhereTold told (λ content. IsOfRecovery c (recovered content) reply))
+pub refused_reply : (told : Option History) (fault : RecoverFault) (c : Command) → IfTold told (IsRefusal Any fault)
+    → IfOk (refused_for fault) (λ reply. IfTold told (λ content. IsOfRecovery c (recovered content) reply))
 refused_reply told refusals.Disk c why = tt
 refused_reply told refusals.Memory c why = tt
 refused_reply None (refusals.Header fault) c why = tt

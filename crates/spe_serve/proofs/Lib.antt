@@ -1,10 +1,10 @@
 pub mod TextLemmas
 pub mod AliasLemmas
 pub mod RowLemmas
+pub mod DamageLemmas
 pub mod VerdictLemmas
 pub mod TableLemmas
 pub mod NumberLemmas
-pub mod RangeLemmas
 pub mod InsideLemmas
 pub mod AskedLemmas
 pub mod AskLemmas
@@ -12,3 +12,5 @@ pub mod FileLemmas
 pub mod RefusedLemmas
 pub mod OutcomeLemmas
 pub mod StopLemmas
+pub mod MadeLemmas
+pub mod EndingLemmas

@@ -6,8 +6,9 @@ use Rattle.spe_model.specs.Content.{Content, file_of, bytes_of}
 use Rattle.spe_model.specs.Recovery.{recovered}
 use Rattle.spe_model.specs.Trace.{History, present, after}
 use Rattle.spe_model.specs.Faults.{Rose}
+use Rattle.spe_disk.specs.declared.disk.Disk.{Ghosts}
 use Rattle.spe_disk.specs.Told.{Finds, NothingDone}
-use Rattle.spe_recover.specs.Told.{WhereTold}
+use Rattle.spe_recover.specs.Told.{IfTold}
 use Rattle.spe_words.specs.declared.command.Command.{Command}
 use Rattle.spe_words.specs.declared.command.Command.TheVariants as commands
 use Rattle.spe_words.specs.Grammar.{AskFor}
@@ -15,12 +16,12 @@ use Rattle.spe_serve.specs.declared.reply.Reply.{Reply}
 use Rattle.spe_serve.specs.declared.reply.Reply.TheVariants as replies
 use Rattle.spe_serve.specs.declared.outcome.Outcome.{Outcome}
 use Rattle.spe_serve.specs.declared.outcome.Outcome.TheVariants as outcomes
-use Rattle.spe_serve.specs.declared.stop.Stop.{Stop}
-use Rattle.spe_serve.specs.declared.stop.Stop.TheVariants as stops
+use Rattle.spe_serve.specs.declared.failure.Failure.{Failure}
+use Rattle.spe_serve.specs.declared.failure.Failure.TheVariants as failures
 use Rattle.spe_serve.specs.Answer.{IsOfRecovery, IsReplyTo, is_built}
-use Rattle.spe_serve.specs.Ending.{Answers, IsOutcome, IsOutcomeOf, outcome_of}
+use Rattle.spe_serve.specs.Ending.{DiskFails, IsOutcome, IsOutcomeOf, IsRightReply, outcome_of}
 use Rattle.spe_serve.specs.Reply.{IsAbout}
-use Rattle.spe_serve.specs.Stop.{IsCausedByEither}
+use Rattle.spe_serve.specs.Failure.{IsCausedByEither}
 
 rose_later : (before mid now : ℕ) → before ≤ mid → Rose mid now → Rose before now
 rose_later before mid now later rose = omega arith
@@ -29,7 +30,7 @@ some_bytes : (o : Option (List ℕ)) → true ≡ is_some o → o ≡ Some (unwr
 some_bytes None e = absurd cc
 some_bytes (Some bytes) e = refl
 
-none_bytes : (o : Option (List ℕ)) → false ≡ is_some o → o ≡ None
+pub none_bytes : (o : Option (List ℕ)) → false ≡ is_some o → o ≡ None
 none_bytes None e = refl
 none_bytes (Some bytes) e = absurd cc
 
@@ -37,7 +38,7 @@ none_bytes (Some bytes) e = absurd cc
 pub is_asked : (words : List (List ℕ)) (c : Command) (told : Option History) (rose : Type 0) (outcome : Outcome) → AskFor words c
     → IsOutcomeOf c told rose outcome → IsOutcome words told rose outcome
 is_asked words c told rose (outcomes.Answered reply) asked is = inr (c, asked, is)
-is_asked words c told rose outcomes.DiskFailed asked is = is
+is_asked words c told rose outcomes.DiskFailed asked is = (c, asked, is.0, is.1)
 is_asked words c told rose outcomes.NoMemory asked is = is
 
 -- the answer of a command that is built, where there is a file
@@ -70,22 +71,38 @@ absent_about (commands.Work db seed count) built = absurd cc
 first_is : (h : History) → NothingDone (Some h) → present h ≡ h.first
 first_is h fresh = ap (after h.first) fresh
 
-pub no_database : (c : Command) (told : Option History) → is_built c ≡ true → NothingDone told → Finds told (Ok false) → Answers c told replies.NoDatabase
-no_database c None built fresh found = absent_about c built
-no_database c (Some h) built fresh found =
-    subst (λ (content : Content). IsReplyTo c content replies.NoDatabase) (first_is h fresh)
-    (absent_reply c (present h) built (none_bytes (file_of (present h) Database) found))
+pub no_database : (c : Command) (told : Option History) → is_built c ≡ true → NothingDone told → Finds told (Ok false) → IsRightReply c told replies.NoDatabase
+no_database c None built fresh found = record { about = absent_about c built; right = tt }
+no_database c (Some h) built fresh found = record {
+  about = absent_about c built;
+  right = subst (λ (content : Content). IsReplyTo c content replies.NoDatabase) (first_is h fresh)
+      (absent_reply c (present h) built (none_bytes (file_of (present h) Database) found));
+}
 
-pub is_outcome : (c : Command) (told mid : Option History) (result : Result Reply Stop) (reads mid_reads reads_now ops mid_ops ops_now : ℕ) → is_built c ≡ true
+by_counts : (c : Command) (told mid : Option History) (result : Result Reply Failure) (reads mid_reads reads_now ops mid_ops ops_now : ℕ) → is_built c ≡ true
     → NothingDone told → mid ≡ told → Finds told (Ok true)
-    → IfOk result (λ reply. WhereTold mid (λ content. IsOfRecovery c (recovered content) reply)) → IfOk result (IsAbout c)
+    → IfOk result (λ reply. IfTold mid (λ content. IsOfRecovery c (recovered content) reply)) → IfOk result (IsAbout c)
     → reads ≤ mid_reads → mid_ops ≡ ops → IfErr result (IsCausedByEither mid_reads reads_now mid_ops ops_now)
     → IsOutcomeOf c told (Rose reads reads_now ⊎ Rose ops ops_now) (outcome_of result)
-is_outcome c told mid (Err stops.Disk) reads mid_reads reads_now ops mid_ops ops_now built fresh same found ok about later kept err =
-    ⊎_elim (λ (rose : Rose mid_reads reads_now). inl (rose_later reads mid_reads reads_now later rose))
-    (λ (rose : Rose mid_ops ops_now). inr (subst (λ (n : ℕ). Rose n ops_now) kept rose)) err
-is_outcome c told mid (Err stops.Memory) reads mid_reads reads_now ops mid_ops ops_now built fresh same found ok about later kept err = tt
-is_outcome c None mid (Ok reply) reads mid_reads reads_now ops mid_ops ops_now built fresh same found ok about later kept err = about
-is_outcome c (Some h) mid (Ok reply) reads mid_reads reads_now ops mid_ops ops_now built fresh same found ok about later kept err =
-    subst (λ (content : Content). IsReplyTo c content reply) (first_is h fresh)
-    (there_reply c (present h) (bytes_of (present h) Database) reply built (some_bytes (file_of (present h) Database) found) (rw same at ok))
+by_counts c told mid (Err failures.Disk) reads mid_reads reads_now ops mid_ops ops_now built fresh same found ok about later kept err = (
+  built,
+  ⊎_elim (λ (rose : Rose mid_reads reads_now). inl (rose_later reads mid_reads reads_now later rose))
+      (λ (rose : Rose mid_ops ops_now). inr (subst (λ (n : ℕ). Rose n ops_now) kept rose)) err,
+)
+by_counts c told mid (Err failures.Memory) reads mid_reads reads_now ops mid_ops ops_now built fresh same found ok about later kept err = tt
+by_counts c None mid (Ok reply) reads mid_reads reads_now ops mid_ops ops_now built fresh same found ok about later kept err = record { about = about; right = tt }
+by_counts c (Some h) mid (Ok reply) reads mid_reads reads_now ops mid_ops ops_now built fresh same found ok about later kept err = record {
+  about = about;
+  right = subst (λ (content : Content). IsReplyTo c content reply) (first_is h fresh)
+      (there_reply c (present h) (bytes_of (present h) Database) reply built (some_bytes (file_of (present h) Database) found) (rw same at ok));
+}
+
+pub is_outcome : {D : Type 0} (g : Ghosts D) (before mid now : D) (c : Command) (result : Result Reply Failure) → is_built c ≡ true
+    → NothingDone (g.told before) → g.told mid ≡ g.told before → Finds (g.told before) (Ok true)
+    → IfOk result (λ reply. IfTold (g.told mid) (λ content. IsOfRecovery c (recovered content) reply)) → IfOk result (IsAbout c)
+    → g.read_faults before ≤ g.read_faults mid → g.op_faults mid ≡ g.op_faults before
+    → IfErr result (IsCausedByEither (g.read_faults mid) (g.read_faults now) (g.op_faults mid) (g.op_faults now))
+    → IsOutcomeOf c (g.told before) (DiskFails g before now) (outcome_of result)
+is_outcome g before mid now c result built fresh same found ok about later kept err =
+    by_counts c (g.told before) (g.told mid) result (g.read_faults before) (g.read_faults mid) (g.read_faults now) (g.op_faults before) (g.op_faults mid) (g.op_faults now)
+    built fresh same found ok about later kept err

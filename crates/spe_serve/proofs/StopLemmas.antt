@@ -47,11 +47,11 @@ after_there [] content there = there
 after_there (o ∷ os) content there = after_there os (made_by o content) (made_there o content there)
 
 -- without a file nothing is recovered
-abbrev is_refused : Result (List (List ℕ)) RecoverFault → Bool
+abbrev pub is_refused : Result (List (List ℕ)) RecoverFault → Bool
 is_refused (Ok pages) = false
 is_refused (Err fault) = true
 
-absent_refused : (content : Content) → file_of content Database ≡ None → is_refused (recovered content) ≡ true
+pub absent_refused : (content : Content) → file_of content Database ≡ None → is_refused (recovered content) ≡ true
 unfolding recovered
 absent_refused content absent =
     let none : bytes_of content Database ≡ [] = ap (λ (f : Option (List ℕ)). unwrap_or f []) absent in

@@ -19,7 +19,7 @@ use Rattle.spe_catalog.specs.Reader.{CatalogOrBad, IsCatalog}
 use Rattle.spe_serve.specs.declared.reply.Reply.{Reply}
 use Rattle.spe_serve.specs.declared.reply.Reply.TheVariants as replies
 use Rattle.spe_serve.specs.Answer.{reply_of_rows, reply_of_table}
-use Rattle.spe_serve.specs.Space.{entry_named, AreRowsOf, Gives, HoldsRows}
+use Rattle.spe_serve.specs.Space.{entry_named, AreRowsOf, Undamaged, HoldsRows}
 use Rattle.spe_serve.proofs.NumberLemmas.{numbered}
 
 -- what the catalog's table of a name says of the database's
@@ -117,18 +117,18 @@ table_found usable count pages catalog db name stands is =
 
 -- their catalog is read: nothing of it is damaged
 pub never_bad : (usable count : ℕ) (pages : Paging) (db : Database) (fault : TreeFault) (P : Reply → Type 0) → count < 2 ^ 32 → (stands : StandsFor usable count pages db)
-    → CatalogOrBad pages (tree_rows usable pages stands.height 1) (Err fault) → Gives P (Err fault)
+    → CatalogOrBad pages (tree_rows usable pages stands.height 1) (Err fault) → Undamaged P (Err fault)
 never_bad usable count pages db (Space f) P small stands or = tt
 never_bad usable count pages db (Corrupt page) P small stands or = or stands.rows stands.rows_are stands.named (numbered usable count pages db small stands)
 
 -- what is said of the table of a name
 pub named_reply : (usable : ℕ) (pages : Paging) (found : Option Entry) (named : Option (TableDef × List Row)) (entry : Entry) (result : Result Reply TreeFault)
     → FindsTable usable pages found named → Some entry ≡ found
-    → ((rows : List Row) → HoldsRows usable pages entry rows → Gives (λ reply. reply ≡ reply_of_rows rows entry.table.closed) result)
-    → Gives (λ reply. reply ≡ reply_of_table named) result
+    → ((rows : List Row) → HoldsRows usable pages entry rows → Undamaged (λ reply. reply ≡ reply_of_rows rows entry.table.closed) result)
+    → Undamaged (λ reply. reply ≡ reply_of_table named) result
 named_reply usable pages found named entry result finds is gives =
     let here : FindsTable usable pages (Some entry) named = subst (λ (f : Option Entry). FindsTable usable pages f named) (sym is) finds in
-    subst (λ (n : Option (TableDef × List Row)). Gives (λ reply. reply ≡ reply_of_table n) result) (sym here.1) (gives here.0 here.2)
+    subst (λ (n : Option (TableDef × List Row)). Undamaged (λ reply. reply ≡ reply_of_table n) result) (sym here.1) (gives here.0 here.2)
 
 pub unnamed_reply : (usable : ℕ) (pages : Paging) (found : Option Entry) (named : Option (TableDef × List Row)) → FindsTable usable pages found named → None ≡ found
     → replies.NoTable ≡ reply_of_table named

@@ -5,10 +5,10 @@ use Rattle.spe_model.specs.Paging.{Paging}
 use Rattle.spe_model.specs.Served.{usable_in}
 use Rattle.spe_space.specs.declared.fault.TreeFault.{TreeFault}
 use Rattle.spe_space.specs.declared.fault.TreeFault.TheVariants.{Space, Corrupt}
-use Rattle.spe_serve.specs.Space.{Gives, HasFront, names_front}
+use Rattle.spe_serve.specs.Space.{Undamaged, HasFront, names_front}
 
 -- a fault says the same of answers of any type
-pub fault_same : (X Y : Type 0) (P : X → Type 0) (Q : Y → Type 0) (fault : TreeFault) → Gives P (Err fault) → Gives Q (Err fault)
+pub fault_same : (X Y : Type 0) (P : X → Type 0) (Q : Y → Type 0) (fault : TreeFault) → Undamaged P (Err fault) → Undamaged Q (Err fault)
 fault_same X Y P Q (Space f) h = tt
 fault_same X Y P Q (Corrupt page) h = h
 

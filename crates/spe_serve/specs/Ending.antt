@@ -1,10 +1,14 @@
 -- How a run of the program ends: what it printed, and its status.
-use Rattle.std.specs.Prelude.{◌≡◌, ℕ, ◌⊎◌, List, Option, Some, None, Result, Ok, Err, codes}
+use Rattle.std.specs.Prelude.{◌≡◌, ℕ, ◌⊎◌, true, List, Option, Some, None, Result, Ok, Err, codes}
 use Rattle.std.specs.declared.vec.Vec.{Vec}
 use Rattle.std.specs.declared.alloc.Global.{Global}
 use Rattle.std.specs.declared.alloc.AllocError.{AllocError}
 use Rattle.spe_model.specs.Content.{Content}
 use Rattle.spe_model.specs.Trace.{Operation, History, IsCut, after, present}
+use Rattle.spe_disk.specs.declared.disk.Disk.{Ghosts as DiskGhosts}
+use Rattle.spe_disk.specs.declared.sink.Sink.{Ghosts as SinkGhosts}
+use Rattle.spe_model.specs.Faults.{Rose}
+use Rattle.spe_disk.specs.Listed.{next_number}
 use Rattle.spe_disk.specs.Told.{Adds}
 use Rattle.spe_disk.specs.Sink.{Appends, AppendsFront}
 use Rattle.spe_words.specs.declared.command.Command.{Command}
@@ -13,45 +17,50 @@ use Rattle.spe_serve.specs.declared.reply.Reply.{Reply}
 use Rattle.spe_model.specs.declared.recovery.RecoverFault.{RecoverFault}
 use Rattle.spe_model.specs.declared.recovery.RecoverFault.TheVariants as refusals
 use Rattle.spe_serve.specs.declared.reply.Reply.TheVariants as replies
-use Rattle.spe_serve.specs.declared.stop.Stop.{Stop}
-use Rattle.spe_serve.specs.declared.stop.Stop.TheVariants as stops
+use Rattle.spe_serve.specs.declared.failure.Failure.{Failure}
+use Rattle.spe_serve.specs.declared.failure.Failure.TheVariants as failures
 use Rattle.spe_serve.specs.declared.outcome.Outcome.{Outcome}
 use Rattle.spe_serve.specs.declared.outcome.Outcome.TheVariants.{Answered, DiskFailed, NoMemory}
 use Rattle.spe_render.specs.Values.{line}
 use Rattle.spe_serve.specs.Reply.{AskForNone, IsAbout, text_of, status_of}
-use Rattle.spe_serve.specs.Answer.{IsReplyTo}
+use Rattle.spe_serve.specs.Answer.{IsReplyTo, is_built}
 
--- a right answer to a command over the content at attaching, where it is told; else one that the command may have
-abbrev pub Answers : Command → Option History → Reply → Type 0
-Answers c None reply = IsAbout c reply
-Answers c (Some h) reply = IsReplyTo c h.first reply
+-- an answer that is right over the content at attaching, where it is told
+abbrev pub IsRightWhereTold : Option History → Command → Reply → Type 0
+IsRightWhereTold None c reply = Unit {0}
+IsRightWhereTold (Some h) c reply = IsReplyTo c h.first reply
 
--- An outcome of a command is a right answer, or the disk's count of faults has risen, or memory ran out.
+-- an answer that the command may have, and is right where it can be told
+pub record IsRightReply (c : Command) (told : Option History) (reply : Reply) : Type 0 where
+  pub about : IsAbout c reply
+  pub right : IsRightWhereTold told c reply
+
+-- An outcome of a command is a right answer, or the disk's count of faults has risen over its database, or memory ran out.
 abbrev pub IsOutcomeOf : Command → Option History → Type 0 → Outcome → Type 0
-IsOutcomeOf c told rose (Answered reply) = Answers c told reply
-IsOutcomeOf c told rose DiskFailed = rose
+IsOutcomeOf c told rose (Answered reply) = IsRightReply c told reply
+IsOutcomeOf c told rose DiskFailed = (is_built c ≡ true) × rose
 IsOutcomeOf c told rose NoMemory = Unit {0}
 
 -- a right answer to the command that the words ask for, or that they ask for none
 abbrev pub IsReply : List (List ℕ) → Option History → Reply → Type 0
-IsReply words told reply = (AskForNone words × (reply ≡ replies.Words)) ⊎ ((c : Command) × AskFor words c × Answers c told reply)
+IsReply words told reply = (AskForNone words × (reply ≡ replies.Words)) ⊎ ((c : Command) × AskFor words c × IsRightReply c told reply)
 
--- An outcome of words is such an answer to them, or the disk's count of faults has risen, or memory ran out.
+-- An outcome of words is such an answer to them, or they ask for a command that the disk failed, or memory ran out.
 abbrev pub IsOutcome : List (List ℕ) → Option History → Type 0 → Outcome → Type 0
 IsOutcome words told rose (Answered reply) = IsReply words told reply
-IsOutcome words told rose DiskFailed = rose
+IsOutcome words told rose DiskFailed = (c : Command) × AskFor words c × (is_built c ≡ true) × rose
 IsOutcome words told rose NoMemory = Unit {0}
 
 -- what a search of the disk comes to
-abbrev pub outcome_of : Result Reply Stop → Outcome
+abbrev pub outcome_of : Result Reply Failure → Outcome
 outcome_of (Ok reply) = Answered reply
-outcome_of (Err stops.Disk) = DiskFailed
-outcome_of (Err stops.Memory) = NoMemory
+outcome_of (Err failures.Disk) = DiskFailed
+outcome_of (Err failures.Memory) = NoMemory
 
 -- what recovery's refusal comes to
-abbrev pub refused_for : RecoverFault → Result Reply Stop
-refused_for refusals.Disk = Err stops.Disk
-refused_for refusals.Memory = Err stops.Memory
+abbrev pub refused_for : RecoverFault → Result Reply Failure
+refused_for refusals.Disk = Err failures.Disk
+refused_for refusals.Memory = Err failures.Memory
 refused_for fault = Ok (replies.Refused fault)
 
 abbrev pub outcome_text : Outcome → List ℕ
@@ -64,24 +73,56 @@ outcome_status (Answered reply) = status_of reply
 outcome_status DiskFailed = 3
 outcome_status NoMemory = 4
 
--- The sink took the whole text, and the status is that of the outcome; or its count of faults has risen, it took some
--- first bytes, and the status is 3.
-abbrev pub Prints : List ℕ → ℕ → Option (List ℕ) → Option (List ℕ) → Type 0 → ℕ → Type 0
-Prints text ending old new rose status = (Appends old new text × (status ≡ ending)) ⊎ (AppendsFront old new text × rose × (status ≡ 3))
+-- the disk failed: its count of reading calls that failed has risen, or that of operations
+abbrev pub DiskFails : {D : Type 0} (g : DiskGhosts D) (before now : D) → Type 0
+DiskFails g before now = Rose (g.read_faults before) (g.read_faults now) ⊎ Rose (g.op_faults before) (g.op_faults now)
+
+-- the sink took the whole text, and did not fail
+pub record TakesAll {W : Type 0} (g : SinkGhosts W) (before now : W) (text : List ℕ) : Type 0 where
+  pub taken : Appends (g.taken before) (g.taken now) text
+  pub count : g.faults now ≡ g.faults before
+
+-- the sink's count of faults is the next one: of all pieces that were put, one failed
+abbrev pub SinkFailsOnce : {W : Type 0} (g : SinkGhosts W) (before now : W) → Type 0
+SinkFailsOnce g before now = g.faults now ≡ next_number (g.faults before)
+
+-- the sink took some first bytes of the text, or none, and failed once
+pub record FailsWithin {W : Type 0} (g : SinkGhosts W) (before now : W) (text : List ℕ) : Type 0 where
+  pub taken : AppendsFront (g.taken before) (g.taken now) text
+  pub count : SinkFailsOnce g before now
+
+-- The sink took the whole text, and the status is that of the outcome; or it failed within the text, and the status is 3.
+abbrev pub Prints : {W : Type 0} (g : SinkGhosts W) (before now : W) (text : List ℕ) (ending status : ℕ) → Type 0
+Prints g before now text ending status = (TakesAll g before now text × (status ≡ ending)) ⊎ (FailsWithin g before now text × (status ≡ 3))
 
 -- a text that was put together was printed, or there was no memory for it
-abbrev pub PrintsMade : Result (Vec ℕ Global) AllocError → ℕ → Option (List ℕ) → Option (List ℕ) → Type 0 → ℕ → Type 0
-PrintsMade (Ok text) ending old new rose status = Prints text.items ending old new rose status
-PrintsMade (Err e) ending old new rose status = Prints (outcome_text NoMemory) 4 old new rose status
+abbrev pub PrintsMade : {W : Type 0} (g : SinkGhosts W) (before now : W) → Result (Vec ℕ Global) AllocError → (ending status : ℕ) → Type 0
+PrintsMade g before now (Ok text) ending status = Prints g before now text.items ending status
+PrintsMade g before now (Err e) ending status = Prints g before now (outcome_text NoMemory) 4 status
 
 -- an answer was printed, or there was no memory for its text
-abbrev pub PrintsAnswer : Reply → Option (List ℕ) → Option (List ℕ) → Type 0 → ℕ → Type 0
-PrintsAnswer reply old new rose status = Prints (text_of reply) (status_of reply) old new rose status ⊎ Prints (outcome_text NoMemory) 4 old new rose status
+abbrev pub PrintsAnswer : {W : Type 0} (g : SinkGhosts W) (before now : W) → Reply → (status : ℕ) → Type 0
+PrintsAnswer g before now reply status =
+    Prints g before now (text_of reply) (status_of reply) status ⊎ Prints g before now (outcome_text NoMemory) 4 status
+
+-- what there is to print of an outcome was printed
+abbrev pub PrintsOutcome : {W : Type 0} (g : SinkGhosts W) (before now : W) → Outcome → (status : ℕ) → Type 0
+PrintsOutcome g before now (Answered reply) status = PrintsAnswer g before now reply status
+PrintsOutcome g before now DiskFailed status = Prints g before now (outcome_text DiskFailed) 3 status
+PrintsOutcome g before now NoMemory status = Prints g before now (outcome_text NoMemory) 4 status
 
 -- What was printed is the text of an outcome, and the status is its own.
-abbrev pub Ends : List (List ℕ) → Option History → Type 0 → Option (List ℕ) → Option (List ℕ) → Type 0 → ℕ → Type 0
-Ends words told disk_rose old new sink_rose status =
-    (outcome : Outcome) × IsOutcome words told disk_rose outcome × Prints (outcome_text outcome) (outcome_status outcome) old new sink_rose status
+abbrev pub Ends : {W : Type 0} (g : SinkGhosts W) (before now : W) (words : List (List ℕ)) (told : Option History) (rose : Type 0) (status : ℕ) → Type 0
+Ends g before now words told rose status =
+    (outcome : Outcome) × IsOutcome words told rose outcome × Prints g before now (outcome_text outcome) (outcome_status outcome) status
+
+-- the status of words that are no command is 1, unless memory ran out or the sink failed
+abbrev pub EndsRefused : {W : Type 0} (g : SinkGhosts W) (before now : W) (status : ℕ) → Type 0
+EndsRefused g before now status = (status ≡ 1) ⊎ ((status ≡ 4) ⊎ ((status ≡ 3) × SinkFailsOnce g before now))
+
+-- the sink's count of faults stays, or the sink failed once and the status is 3
+abbrev pub EndsOnFailure : {W : Type 0} (g : SinkGhosts W) (before now : W) (status : ℕ) → Type 0
+EndsOnFailure g before now status = (g.faults now ≡ g.faults before) ⊎ ((status ≡ 3) × SinkFailsOnce g before now)
 
 -- a right answer to a command over a content is right over what a stop leaves of these operations
 abbrev pub Stays : Command → Content → List Operation → Type 0

@@ -2,5 +2,6 @@ pub mod Reply
 pub mod Answer
 pub mod Row
 pub mod Space
-pub mod Stop
+pub mod Failure
+pub mod Made
 pub mod Ending

@@ -30,11 +30,11 @@ IsAboutRows (replies.ClosedTable why) = Unit {0}
 IsAboutRows (replies.Rows rows) = Unit {0}
 IsAboutRows _ = ⊥
 
--- an answer to words that ask for a verdict
+-- An answer to words that ask for a verdict. Corrupt is page 1 alone, where it no longer begins as recovery found it.
 abbrev pub IsAboutVerdict : Reply → Type 0
 IsAboutVerdict replies.NoDatabase = Unit {0}
 IsAboutVerdict (replies.Refused fault) = IsPlain fault
-IsAboutVerdict (replies.Corrupt page) = Unit {0}
+IsAboutVerdict (replies.Corrupt page) = page ≡ 1
 IsAboutVerdict (replies.Sound pages tables rows free) = Unit {0}
 IsAboutVerdict (replies.Damage page rule) = Unit {0}
 IsAboutVerdict _ = ⊥

@@ -1,12 +1,12 @@
 //! The answers of the commands that read a database, over the pages of a space.
 
-ghost use Rattle.std.specs.Prelude.{◌≡◌, ◌≤◌, ◌*◌, ◌^◌, true, None, IfOk};
+ghost use Rattle.std.specs.Prelude.{◌≡◌, ◌≤◌, ◌*◌, ◌^◌, true, None, IfErr, IfOk};
 ghost use Rattle.spe_model.specs.Verdict.{verdict_of};
 ghost use Rattle.spe_space.specs.Calls.{Reads, RefusesTree};
 ghost use Rattle.spe_words.specs.declared.command.Command.TheVariants as commands;
 ghost use Rattle.spe_serve.specs.Answer.{reply_of_verdict, is_built, IsOfVerdict, IsOverPages};
 ghost use Rattle.spe_serve.specs.Reply.{IsAbout, IsAboutRows, IsAboutVerdict};
-ghost use Rattle.spe_serve.specs.Space.{AnswersTold, AsksInside, AsksOver, AsksTold, GivesOver};
+ghost use Rattle.spe_serve.specs.Space.{AnswersTold, AsksInside, IsFaultAbout, IsOfFront, AsksOver, AsksTold, GivesOver};
 
 use crate::reply::Reply;
 use crate::table::table_reply;
@@ -39,14 +39,13 @@ fn check_reply<S: Pages>(alloc: Global, space: &mut S, pages: u32) -> Result<Rep
     requires few { pages * S.Pages.size space.old ≤ 2 ^ 30 }
     ensures reply { GivesOver S.Pages space.old space.new (λ shown reply. reply ≡ reply_of_verdict pages (verdict_of (S.Pages.used space.old) pages shown)) result }
     ensures about { IfOk result IsAboutVerdict }
+    ensures damage { IfErr result IsOfFront }
     ensures asks { AsksInside pages result }
     ensures kept { Reads S.Pages space.old space.new }
     ensures refusal { RefusesTree S.Pages space.old space.new result }
 {
-    match verdict(alloc, space, pages) {
-        Ok(verdict) => Ok(reply_of(pages, verdict)),
-        Err(fault) => Err(fault),
-    }
+    let verdict = verdict(alloc, space, pages)?;
+    Ok(reply_of(pages, verdict))
 }
 
 // The answer of `rows` over so many pages, of which the verdict comes first.
@@ -86,6 +85,7 @@ fn reply_over<S: Pages>(
     requires few { pages * S.Pages.size space.old ≤ 2 ^ 30 }
     ensures reply { GivesOver S.Pages space.old space.new (IsOverPages command.now (S.Pages.used space.old) pages) result }
     ensures about { IfOk result (IsAbout command.now) }
+    ensures fault { IfErr result (IsFaultAbout command.now pages) }
     ensures asks { AsksOver S.Pages space.old space.new pages result }
     ensures kept { Reads S.Pages space.old space.new }
     ensures refusal { RefusesTree S.Pages space.old space.new result }
@@ -103,7 +103,8 @@ fn reply_over<S: Pages>(
 /// The answer to a command over so many pages, which are those that the space tells.
 ///
 /// Corrupt never comes where the space tells its pages and page 1 has the front that was found before, and
-/// PageOut then names one of so many pages.
+/// PageOut then names one of so many pages. `check` answers Corrupt of page 1 alone, where that page, as it
+/// is read now, no longer begins so.
 pub fn answer<S: Pages>(
     alloc: Global,
     space: &mut S,
@@ -116,6 +117,7 @@ pub fn answer<S: Pages>(
     requires few { pages * S.Pages.size space.old ≤ 2 ^ 30 }
     ensures reply { AnswersTold S.Pages space.old command.now pages result }
     ensures about { IfOk result (IsAbout command.now) }
+    ensures fault { IfErr result (IsFaultAbout command.now pages) }
     ensures asks { AsksTold S.Pages space.old pages result }
     ensures kept { Reads S.Pages space.old space.new }
     ensures refusal { RefusesTree S.Pages space.old space.new result }

@@ -1,16 +1,17 @@
 //! The commands of the program: `spe` does all that the program does.
 //!
 //! So far that is `check` and `rows`, over any database. Its contract names the bytes that are
-//! printed, the status, and what may have gone wrong outside where it is 3.
+//! printed, the status, what may have gone wrong outside where it is 3, and the operations that were
+//! made on the files.
 #![tactic(auto)]
 
 mod ask;
+mod failure;
 mod file;
 mod outcome;
 mod reply;
 mod row;
 mod serve;
-mod stop;
 mod table;
 mod verdict;
 

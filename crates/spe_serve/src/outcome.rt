@@ -1,15 +1,17 @@
 //! What the program does with its words, up to printing.
 
-ghost use Rattle.std.specs.Prelude.{◌≡◌, ◌⊎◌, false, true};
-ghost use Rattle.spe_model.specs.Faults.{Rose};
+ghost use Rattle.std.specs.Prelude.{◌≡◌, false, true};
 ghost use Rattle.spe_model.specs.Settled.{LeavesPages};
 ghost use Rattle.spe_serve.specs.Answer.{is_built};
-ghost use Rattle.spe_serve.specs.Ending.{IsOutcome, IsOutcomeOf, outcome_of};
+ghost use Rattle.spe_words.specs.Grammar.{AskFor};
+ghost use Rattle.spe_serve.specs.Ending.{DiskFails, IsOutcome, IsOutcomeOf, outcome_of};
+ghost use Rattle.spe_serve.specs.Made.{IsMadeFor};
+ghost use Rattle.spe_serve.specs.Reply.{AskForNone};
 
+use crate::failure::Failure;
 use crate::file::file_reply;
 use crate::reply::Reply;
-use crate::stop::Stop;
-use spe_disk::Disk;
+use spe_disk::{Disk, Failed};
 use spe_model::{Text, Words};
 use spe_words::{Command, WordsFault, read_words};
 use std::alloc::Global;
@@ -25,13 +27,13 @@ pub enum Outcome {
     NoMemory,
 }
 
-fn answered(reply: Result<Reply, Stop>) -> Outcome
+fn answered(reply: Result<Reply, Failure>) -> Outcome
     ensures { result ≡ outcome_of reply }
 {
     match reply {
         Ok(reply) => Outcome::Answered(reply),
-        Err(Stop::Disk) => Outcome::DiskFailed,
-        Err(Stop::Memory) => Outcome::NoMemory,
+        Err(Failure::Disk) => Outcome::DiskFailed,
+        Err(Failure::Memory) => Outcome::NoMemory,
     }
 }
 
@@ -44,7 +46,8 @@ fn file_outcome<D: Disk>(
 ) -> (Outcome, D)
     requires built { is_built command.now ≡ true }
     requires attached { D.attached disk ≡ false }
-    ensures outcome { IsOutcomeOf command.now (D.told disk) (Rose (D.read_faults disk) (D.read_faults result.1) ⊎ Rose (D.op_faults disk) (D.op_faults result.1)) result.0 }
+    ensures outcome { IsOutcomeOf command.now (D.told disk) (DiskFails D.Disk disk result.1) result.0 }
+    ensures made { IsMadeFor command.now (D.told disk) (D.told result.1) result.0 }
     ensures leaves { LeavesPages (D.told disk) (D.told result.1) }
 {
     match disk.attach(database.as_str()) {
@@ -53,15 +56,16 @@ fn file_outcome<D: Disk>(
             (answered(reply), disk)
         }
         Ok(false) => (Outcome::Answered(Reply::NoDatabase), disk),
-        Err(_) => (Outcome::DiskFailed, disk),
+        Err(Failed) => (Outcome::DiskFailed, disk),
     }
 }
 
 // The outcome of a command.
-#[tactic(auto, using(crate::proofs::RefusedLemmas::leaves_same))]
+#[tactic(auto, using(crate::proofs::RefusedLemmas::leaves_same, crate::proofs::MadeLemmas::unbuilt_for))]
 fn obey<D: Disk>(alloc: Global, command: &Command, disk: D) -> (Outcome, D)
     requires { D.attached disk ≡ false }
-    ensures outcome { IsOutcomeOf command.now (D.told disk) (Rose (D.read_faults disk) (D.read_faults result.1) ⊎ Rose (D.op_faults disk) (D.op_faults result.1)) result.0 }
+    ensures outcome { IsOutcomeOf command.now (D.told disk) (DiskFails D.Disk disk result.1) result.0 }
+    ensures made { IsMadeFor command.now (D.told disk) (D.told result.1) result.0 }
     ensures leaves { LeavesPages (D.told disk) (D.told result.1) }
 {
     match command {
@@ -78,7 +82,9 @@ fn obey<D: Disk>(alloc: Global, command: &Command, disk: D) -> (Outcome, D)
 #[tactic(auto, using(crate::proofs::RefusedLemmas::leaves_same))]
 pub fn carry_out<D: Disk>(alloc: Global, words: &Words, disk: D) -> (Outcome, D)
     requires { D.attached disk ≡ false }
-    ensures outcome { IsOutcome words.now (D.told disk) (Rose (D.read_faults disk) (D.read_faults result.1) ⊎ Rose (D.op_faults disk) (D.op_faults result.1)) result.0 }
+    ensures outcome { IsOutcome words.now (D.told disk) (DiskFails D.Disk disk result.1) result.0 }
+    ensures untouched { AskForNone words.now → D.told result.1 ≡ D.told disk }
+    ensures made { (c : Command) → AskFor words.now c → IsMadeFor c (D.told disk) (D.told result.1) result.0 }
     ensures leaves { LeavesPages (D.told disk) (D.told result.1) }
 {
     match read_words(alloc, words) {

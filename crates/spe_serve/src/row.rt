@@ -1,6 +1,6 @@
 //! The rows of a table, as the payloads of its tree say them.
 
-ghost use Rattle.std.specs.Prelude.{◌≡◌, ◌≤◌, length, map, IfOk, OnOk, vec_len};
+ghost use Rattle.std.specs.Prelude.{◌≡◌, ◌≤◌, length, IfOk, OnOk, vec_len};
 ghost use Rattle.spe_model.specs.declared.value.Value.TheVariants.{Int};
 ghost use Rattle.spe_model.specs.Alias.{with_alias};
 ghost use Rattle.spe_model.specs.Database.{padded};
@@ -65,22 +65,22 @@ fn row(alloc: Global, table: &TableDef, pair: &Pair) -> Result<Option<(i64, Valu
 }
 
 /// The rows of a table that are stored so: of each its rowid and its values, with NULL for each column
-/// that its record lacks and the rowid in the column that is another name of it. In their place the rowid
+/// that its record lacks and the rowid in the column that is another name of it. In their place the leaf
 /// of the first whose record is damaged, or has more fields than the table has columns. ("Record Format"
 /// in SQLite's Database File Format.)
 pub fn rows(
     alloc: Global,
     table: &TableDef,
     pairs: &[Pair],
-) -> Result<Result<TableRows, i64>, AllocError>
-    ensures { IfOk result (λ found. found ≡ rows_stored table.now (map pair_seen pairs.now)) }
+) -> Result<Result<TableRows, u32>, AllocError>
+    ensures { IfOk result (λ found. found ≡ rows_stored table.now pairs.now) }
 {
     let mut found = Vec::new(alloc);
     let mut left = pairs;
     while let [pair, rest @ ..] = left {
         match row(alloc, table, pair)? {
             Some(row) => found.push(row)?,
-            None => return Ok(Err(pair.rowid)),
+            None => return Ok(Err(pair.leaf)),
         }
         left = rest;
     }

@@ -1,14 +1,18 @@
 //! The top call.
 
-ghost use Rattle.std.specs.Prelude.{◌≡◌, ◌⊎◌, ◌≤◌, [], false};
-ghost use Rattle.spe_model.specs.Faults.{Rose};
+ghost use Rattle.std.specs.Prelude.{◌≡◌, ◌≢◌, ◌⊎◌, [], false, true};
 ghost use Rattle.spe_model.specs.Settled.{LeavesPages};
 ghost use Rattle.spe_render.specs.Values.{table_text};
-ghost use Rattle.spe_serve.specs.Ending.{AnswersStay, Ends, Prints, PrintsAnswer, PrintsMade};
+ghost use Rattle.spe_words.specs.declared.command.Command.{Command};
+ghost use Rattle.spe_words.specs.Grammar.{AskFor};
+ghost use Rattle.spe_serve.specs.Answer.{is_built};
+ghost use Rattle.spe_serve.specs.Ending.{AnswersStay, DiskFails, Ends, EndsOnFailure, EndsRefused, Prints, PrintsAnswer, PrintsMade, PrintsOutcome, SinkFailsOnce};
+ghost use Rattle.spe_serve.specs.Made.{IsMadeAt, MakesAll, MakesPart, Settles};
+ghost use Rattle.spe_serve.specs.Reply.{AskForNone};
 
 use crate::outcome::{Outcome, carry_out};
 use crate::reply::{Reply, closed_line, corrupt_line, damage_line, refusal_line, sound_line};
-use spe_disk::{Disk, Gate, Scripts, Sink, put_all};
+use spe_disk::{Disk, Failed, Gate, Scripts, Sink, put_all};
 use spe_model::{Commits, TableRows, Words};
 use spe_render::print_table;
 use std::alloc::{AllocError, Global};
@@ -39,38 +43,37 @@ const DAMAGE: u8 = 5;
 
 // Puts a text, and answers the status: this one, or that of a fault.
 fn put<W: Sink>(out: &mut W, text: &[u8], status: u8) -> u8
-    ensures prints { Prints text.now status (W.taken out.old) (W.taken out.new) (Rose (W.faults out.old) (W.faults out.new)) result }
+    ensures prints { Prints W.Sink out.old out.new text.now status result }
 {
     match put_all(out, text) {
         Ok(()) => status,
-        Err(_) => FAULT,
+        Err(Failed) => FAULT,
     }
 }
 
 // Puts the rows of a table.
 fn put_rows<W: Sink>(out: &mut W, rows: &TableRows) -> u8
-    ensures prints { Prints (table_text rows.now) 0 (W.taken out.old) (W.taken out.new) (Rose (W.faults out.old) (W.faults out.new)) result }
+    ensures prints { Prints W.Sink out.old out.new (table_text rows.now) 0 result }
 {
     match print_table(rows, out) {
         Ok(()) => DONE,
-        Err(_) => FAULT,
+        Err(Failed) => FAULT,
     }
 }
 
 // Puts a text that was put together, where there was memory for it.
 fn put_made<W: Sink>(out: &mut W, text: Result<Vec<u8>, AllocError>, status: u8) -> u8
-    ensures prints { PrintsMade text status (W.taken out.old) (W.taken out.new) (Rose (W.faults out.old) (W.faults out.new)) result }
+    ensures prints { PrintsMade W.Sink out.old out.new text status result }
 {
     match text {
         Ok(text) => put(out, text.as_slice(), status),
-        Err(_) => put(out, b"memory\n", MEMORY),
+        Err(AllocError) => put(out, b"memory\n", MEMORY),
     }
 }
 
 // Puts an answer.
 fn put_answer<W: Sink>(alloc: Global, out: &mut W, reply: &Reply) -> u8
-    ensures prints { PrintsAnswer reply.now (W.taken out.old) (W.taken out.new) (Rose (W.faults out.old) (W.faults out.new)) result }
-    ensures fault { result ≡ 3 → Rose (W.faults out.old) (W.faults out.new) }
+    ensures prints { PrintsAnswer W.Sink out.old out.new reply.now result }
 {
     match reply {
         Reply::Words => put(out, b"refused words\n", NO_COMMAND),
@@ -91,19 +94,28 @@ fn put_answer<W: Sink>(alloc: Global, out: &mut W, reply: &Reply) -> u8
     }
 }
 
+// Puts what there is to print.
+fn put_outcome<W: Sink>(alloc: Global, out: &mut W, outcome: &Outcome) -> u8
+    ensures { PrintsOutcome W.Sink out.old out.new outcome.now result }
+{
+    match outcome {
+        Outcome::Answered(reply) => put_answer(alloc, out, reply),
+        Outcome::DiskFailed => put(out, b"fault disk\n", FAULT),
+        Outcome::NoMemory => put(out, b"memory\n", MEMORY),
+    }
+}
+
 // Carries out some words and prints what there is to print.
 fn run<D: Disk, W: Sink>(alloc: Global, words: &Words, disk: D, out: &mut W) -> (u8, D)
     requires { D.attached disk ≡ false }
-    ensures ends { Ends words.now (D.told disk) (Rose (D.read_faults disk) (D.read_faults result.1) ⊎ Rose (D.op_faults disk) (D.op_faults result.1)) (W.taken out.old) (W.taken out.new) (Rose (W.faults out.old) (W.faults out.new)) result.0 }
-    ensures fault { result.0 ≡ 3 → (Rose (D.read_faults disk) (D.read_faults result.1) ⊎ Rose (D.op_faults disk) (D.op_faults result.1)) ⊎ Rose (W.faults out.old) (W.faults out.new) }
+    ensures ends { Ends W.Sink out.old out.new words.now (D.told disk) (DiskFails D.Disk disk result.1) result.0 }
+    ensures untouched { AskForNone words.now → D.told result.1 ≡ D.told disk }
+    ensures made { (c : Command) → AskFor words.now c → IsMadeAt c (D.told disk) (D.told result.1) result.0 }
     ensures leaves { LeavesPages (D.told disk) (D.told result.1) }
 {
     let (outcome, disk) = carry_out(alloc, words, disk);
-    match outcome {
-        Outcome::Answered(reply) => (put_answer(alloc, out, &reply), disk),
-        Outcome::DiskFailed => (put(out, b"fault disk\n", FAULT), disk),
-        Outcome::NoMemory => (put(out, b"memory\n", MEMORY), disk),
-    }
+    let status = put_outcome(alloc, out, &outcome);
+    (status, disk)
 }
 
 /// Does all that the program does with the words of its command line, the program's own name left
@@ -112,7 +124,8 @@ fn run<D: Disk, W: Sink>(alloc: Global, words: &Words, disk: D, out: &mut W) -> 
 /// So far two commands are built. Both roll back what hot journals there are, and then try whether the
 /// pages are sound. `check DATABASE` prints the verdict; `rows DATABASE TABLE` prints the rows of an
 /// open table, and refuses damaged pages, a table that there is not, and a closed one, in this order.
-/// Other commands are answered as not built, and their database is not looked at.
+/// Other commands are answered as not built, and their database is not looked at. Words that are no
+/// command are refused before all else.
 pub fn spe<R: Threads + Wait + Sync, D: Disk + Send, C: Scripts, W: Sink, G: Gate + Sync>(
     _rt: &R,
     alloc: Global,
@@ -125,13 +138,25 @@ pub fn spe<R: Threads + Wait + Sync, D: Disk + Send, C: Scripts, W: Sink, G: Gat
     requires { D.attached disk ≡ false }
 
     // The text and the status are those of an outcome of the words: a right answer, a failure or want of memory.
-    ensures ends { Ends words (D.told disk) (Rose (D.read_faults disk) (D.read_faults result.1) ⊎ Rose (D.op_faults disk) (D.op_faults result.1)) (W.taken out.old) (W.taken out.new) (Rose (W.faults out.old) (W.faults out.new)) result.0.status }
-    ensures fault { result.0.status ≡ 3 → (Rose (D.read_faults disk) (D.read_faults result.1) ⊎ Rose (D.op_faults disk) (D.op_faults result.1)) ⊎ Rose (W.faults out.old) (W.faults out.new) }
+    ensures ends { Ends W.Sink out.old out.new words (D.told disk) (DiskFails D.Disk disk result.1) result.0.status }
+    ensures order { result.0.order ≡ [] }
+
+    // Status 1 comes exactly where the words are no command, and 3 exactly where the sink failed or the disk did.
+    ensures unasked { result.0.status ≡ 1 → AskForNone words }
+    ensures refused { AskForNone words → EndsRefused W.Sink out.old out.new result.0.status }
+    ensures fault { result.0.status ≡ 3 → DiskFails D.Disk disk result.1 ⊎ SinkFailsOnce W.Sink out.old out.new }
+    ensures sink { EndsOnFailure W.Sink out.old out.new result.0.status }
+
+    // The operations that are added are a part of the command's, which are recovery's and then its own; with an
+    // answer they are all of them, and then the file holds its pages and no journal has bytes.
+    ensures untouched { AskForNone words → D.told result.1 ≡ D.told disk }
+    ensures part { (c : Command) → AskFor words c → MakesPart c (D.told disk) (D.told result.1) }
+    ensures made { result.0.status ≢ 3 → result.0.status ≢ 4 → (c : Command) → AskFor words c → MakesAll c (D.told disk) (D.told result.1) }
+    ensures settled { result.0.status ≢ 3 → result.0.status ≢ 4 → (c : Command) → AskFor words c → is_built c ≡ true → Settles (D.told disk) (D.told result.1) }
 
     // Wherever a stop cuts what was done, the recovered pages are as before, and a right answer stays right.
     ensures leaves { LeavesPages (D.told disk) (D.told result.1) }
     ensures stops { AnswersStay words (D.told disk) (D.told result.1) }
-    ensures order { result.0.order ≡ [] }
 {
     let (status, disk) = run(alloc, &words, disk, out);
     let order = Commits::new(Vec::new(alloc));

@@ -1,20 +1,18 @@
 //! What is said of one table, over the pages of a space that stand for a database.
 
-ghost use Rattle.std.specs.Prelude.{◌≡◌, ℕ, None, Err, IfOk};
+ghost use Rattle.std.specs.Prelude.{◌≡◌, None, IfOk};
 ghost use Rattle.std.specs.Option.{option_copied};
 ghost use Rattle.spe_model.specs.Rows.{table_named};
-ghost use Rattle.spe_model.specs.Tree.{rank};
 ghost use Rattle.spe_space.specs.Calls.{Reads, RefusesTree};
-ghost use Rattle.spe_catalog.specs.Asks.{MissesOnWay};
 ghost use Rattle.spe_serve.specs.Answer.{reply_of_table};
 ghost use Rattle.spe_serve.specs.Reply.{IsAboutRows};
-ghost use Rattle.spe_serve.specs.Space.{is_named, entry_named, AsksOfRows, AsksOfTable, AsksStanding, GivesRows, GivesTable, GivesStanding};
+ghost use Rattle.spe_serve.specs.Space.{is_named, entry_named, AsksOfRows, AsksOfTable, AsksStanding, GivesRows, GivesTable, GivesStanding, NamesRows, NamesTable};
 
 use crate::reply::Reply;
 use crate::row::rows;
-use spe_catalog::{leaf, read_catalog};
+use spe_catalog::read_catalog;
 use spe_model::{Catalog, Entry, Text};
-use spe_search::range;
+use spe_search::{range_with_leaves, spans_the_table};
 use spe_space::{Pages, TreeFault};
 use std::alloc::Global;
 
@@ -39,35 +37,24 @@ fn entry_named<'a>(catalog: &'a Catalog, name: &Text) -> Option<&'a Entry>
         .find(|entry| is_named(entry, name))
 }
 
-// Corrupt of the leaf of a row.
-fn damage<S: Pages>(alloc: Global, space: &mut S, root: u32, rowid: i64) -> TreeFault
-    requires { S.Pages.refusal space.old ≡ None }
-    ensures page_out { MissesOnWay {X = ℕ} S.Pages space.old space.new root (rank rowid) (Err result) }
-    ensures kept { Reads S.Pages space.old space.new }
-    ensures refusal { RefusesTree {X = ℕ} S.Pages space.old space.new (Err result) }
-{
-    match leaf(alloc, space, root, rowid) {
-        Ok(page) => TreeFault::Corrupt { page },
-        Err(fault) => fault,
-    }
-}
-
 // The rows of an open table. Corrupt names the leaf of a row whose record is none of the table.
 fn open_reply<S: Pages>(alloc: Global, space: &mut S, entry: &Entry) -> Result<Reply, TreeFault>
     requires { S.Pages.refusal space.old ≡ None }
     ensures rows { GivesRows S.Pages space.old space.new entry.now result }
     ensures about { IfOk result IsAboutRows }
+    ensures damage { NamesRows S.Pages space.old space.new entry.now result }
     ensures asks { AsksOfRows S.Pages space.old space.new entry.now result }
     ensures kept { Reads S.Pages space.old space.new }
     ensures refusal { RefusesTree S.Pages space.old space.new result }
 {
-    let pairs = match range(alloc, space, entry.root, i64::MIN, i64::MAX) {
+    spans_the_table();
+    let pairs = match range_with_leaves(alloc, space, entry.root, i64::MIN, i64::MAX) {
         Ok(pairs) => pairs,
         Err(fault) => return Err(fault),
     };
     match rows(alloc, &entry.table, pairs.as_slice())? {
         Ok(rows) => Ok(Reply::Rows(rows)),
-        Err(rowid) => Err(damage(alloc, space, entry.root, rowid)),
+        Err(page) => Err(TreeFault::Corrupt { page }),
     }
 }
 
@@ -76,6 +63,7 @@ fn entry_reply<S: Pages>(alloc: Global, space: &mut S, entry: &Entry) -> Result<
     requires { S.Pages.refusal space.old ≡ None }
     ensures table { GivesTable S.Pages space.old space.new entry.now result }
     ensures about { IfOk result IsAboutRows }
+    ensures damage { NamesRows S.Pages space.old space.new entry.now result }
     ensures asks { AsksOfTable S.Pages space.old space.new entry.now result }
     ensures kept { Reads S.Pages space.old space.new }
     ensures refusal { RefusesTree S.Pages space.old space.new result }
@@ -89,11 +77,14 @@ fn entry_reply<S: Pages>(alloc: Global, space: &mut S, entry: &Entry) -> Result<
 /// What the database for which the pages of a space stand says of the table of this name.
 ///
 /// The schema's tree is read, the root page of each table, and then the tree of this one. Corrupt never
-/// comes where the pages stand for a database, and PageOut then names one of these pages.
+/// comes where the pages stand for a database, and PageOut then names one of these pages. Whatever the
+/// pages are, Corrupt names a page that was read and breaks a rule, or the leaf that a row of the schema or
+/// of the table was read from whose record may not stand there.
 pub fn table_reply<S: Pages>(alloc: Global, space: &mut S, name: &Text) -> Result<Reply, TreeFault>
     requires { S.Pages.refusal space.old ≡ None }
     ensures reply { GivesStanding S.Pages space.old space.new (λ db reply. reply ≡ reply_of_table (table_named name.now db)) result }
     ensures about { IfOk result IsAboutRows }
+    ensures damage { NamesTable S.Pages space.old space.new name.now result }
     ensures asks { AsksStanding S.Pages space.old space.new result }
     ensures kept { Reads S.Pages space.old space.new }
     ensures refusal { RefusesTree S.Pages space.old space.new result }

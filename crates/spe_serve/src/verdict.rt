@@ -6,7 +6,7 @@ ghost use Rattle.spe_model.specs.Served.{usable_in};
 ghost use Rattle.spe_model.specs.Verdict.{verdict_of};
 ghost use Rattle.spe_space.specs.Calls.{Reads, RefusesTree};
 ghost use Rattle.spe_space.specs.Found.{OnMissing};
-ghost use Rattle.spe_serve.specs.Space.{AsksInside, Gives, GivesFront, GivesOver, names_front};
+ghost use Rattle.spe_serve.specs.Space.{AsksInside, IsOfFront, Undamaged, GivesFront, GivesOver, names_front};
 
 use spe_check::check;
 use spe_model::{Header, Verdict};
@@ -17,6 +17,7 @@ use std::alloc::Global;
 fn read_front<S: Pages>(alloc: Global, space: &mut S) -> Result<Header, TreeFault>
     ensures front { GivesFront S.Pages space.old space.new result }
     ensures sized { IfOk result (λ header. header.reserved ≤ header.page_size) }
+    ensures damage { IfErr result IsOfFront }
     ensures asks { IfErr result (OnMissing (λ at. at ≡ 1)) }
     ensures kept { Reads S.Pages space.old space.new }
     ensures refusal { RefusesTree S.Pages space.old space.new result }
@@ -47,6 +48,7 @@ pub fn verdict<S: Pages>(alloc: Global, space: &mut S, pages: u32) -> Result<Ver
     requires few { pages * S.Pages.size space.old ≤ 2 ^ 30 }
     ensures verdict { GivesOver S.Pages space.old space.new (λ shown verdict. verdict ≡ verdict_of (S.Pages.used space.old) pages shown) result }
     ensures wide { OnOk result (480 ≤ S.Pages.used space.old) }
+    ensures damage { IfErr result IsOfFront }
     ensures asks { AsksInside pages result }
     ensures kept { Reads S.Pages space.old space.new }
     ensures refusal { RefusesTree S.Pages space.old space.new result }

@@ -14,6 +14,13 @@ pub record IsApart (pages : Paging) (free : ℕ → Bool) (page : ℕ) (bytes : 
   pub unnamed : page ≢ list_in pages
   pub front : page ≡ 1 → take 40 bytes ≡ take 40 (pages 1)
 
+-- one of so many pages other than page 1
+abbrev pub IsLaterPage : (number n : ℕ) → Type 0
+IsLaterPage number n = (2 ≤ n) × (n ≤ number)
+
+pub later_page_of : (number count n : ℕ) → number ≡ count → IsLaterPage count n → IsLaterPage number n
+later_page_of number count n same placed = rw same placed
+
 -- a page that may become free
 pub record MayFree (pages : Paging) (free : ℕ → Bool) (page : ℕ) : Type 0 where
   pub low : 2 ≤ page

@@ -4,6 +4,7 @@ ghost use Rattle.std.specs.Prelude.{◌≡◌, ◌≢◌, ℕ, List, [], replica
 ghost use Rattle.std.specs.Ordering.{nat_cmp};
 ghost use Rattle.std.specs.BTreeSet.{contains};
 ghost use Rattle.spe_model.specs.Paging.{IsPageSize};
+ghost use Rattle.spe_space.specs.Free.{IsLaterPage};
 ghost use Rattle.spe_space.specs.Outcome.{IsInside};
 ghost use Rattle.spe_space.specs.Slots.{IsSized};
 
@@ -28,7 +29,8 @@ pub struct MapSpace {
     ghost some: { 1 ≤ vec_len slots },
     ghost few: { vec_len slots ≤ limit },
     ghost most: { limit ≤ 2097152 },
-    ghost inside: { (n : ℕ) → IsTrue (contains nat_cmp free_pages n) → IsInside (vec_len slots) n },
+    ghost bounded: { limit * size ≤ 1073741824 },
+    ghost inside: { (n : ℕ) → IsTrue (contains nat_cmp free_pages n) → IsLaterPage (vec_len slots) n },
 }
 
 impl MapSpace {

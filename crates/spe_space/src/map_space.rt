@@ -1,6 +1,7 @@
 //! Pages in memory, as a space.
 
-ghost use Rattle.std.specs.Prelude.{false, Some, refl};
+ghost use Rattle.std.specs.Prelude.{true, false, Some, refl};
+ghost use Rattle.spe_space.specs.Free.{later_page_of};
 ghost use Rattle.spe_space.specs.View.{map_size, map_count, map_limit, map_told, map_seen, map_laid, map_free, map_next, map_stands, map_admits, map_refusal};
 ghost use Rattle.spe_space.specs.Told.{told_agrees};
 
@@ -42,6 +43,16 @@ impl Pages for MapSpace {
     ghost settled = { λ _ _. refl };
 
     ghost within = { λ s. (s.some, s.few) };
+
+    ghost steady = { true };
+
+    ghost agreed = { λ _ s. (map_told s, told_agrees s.slots.items s.size) };
+
+    ghost bounded = { λ s. (s.range.1, s.bounded) };
+
+    ghost placed = { λ s pages stood n free. later_page_of _ _ n stood (s.inside n free) };
+
+    ghost named = { λ s pages agrees stood alone. stood };
 
     fn page_size(&self) -> u32 {
         self.size
@@ -114,7 +125,9 @@ impl PageSpace for MapSpace {
             let pages = self.count();
             return Err(self.refuse(SpaceFault::PageOut { page, pages }));
         }
-        let _ = self.free_pages.insert(page)?;
+        if page > 1 {
+            let _ = self.free_pages.insert(page)?;
+        }
         Ok(())
     }
 }

@@ -1,9 +1,9 @@
 //! What every space of pages does.
 
-ghost use Rattle.std.specs.Prelude.{◌≡◌, ◌≢◌, ◌⊎◌, ◌+◌, ◌<◌, ◌≤◌, ℕ, Bool, false, Option, replicate, length, Some, IsSome, IsTrue, IfOk, IfErr, IfSome, OnOk, OnErr};
+ghost use Rattle.std.specs.Prelude.{◌≡◌, ◌≢◌, ◌⊎◌, ◌+◌, ◌*◌, ◌^◌, ◌<◌, ◌≤◌, ℕ, Bool, true, false, Option, replicate, length, Some, IsSome, IsTrue, IfOk, IfErr, IfSome, OnOk, OnErr};
 ghost use Rattle.spe_model.specs.Paging.{Paging, PageMap, Given, Agrees, lay, IsPageSize, IsUsableSize};
 ghost use Rattle.spe_space.specs.declared.fault.SpaceFault.{SpaceFault as Fault};
-ghost use Rattle.spe_space.specs.Free.{EachStanding, IsApart, IsSame, IsNew};
+ghost use Rattle.spe_space.specs.Free.{EachStanding, IsApart, IsSame, IsNew, IsLaterPage};
 ghost use Rattle.spe_space.specs.Front.{number_in, recounted, IsGiven, SpoilsFront, SpoilsGrowth};
 ghost use Rattle.spe_space.specs.Outcome.{refusal_after, IsInside, Fits, FitsGet, FitsPut, FitsExtend, OnCorrupt};
 
@@ -13,8 +13,10 @@ use crate::fault::SpaceFault;
 ///
 /// Nothing is known of a page before it was given or put, since others may change it until then. So
 /// what is said of pages is said of every list of pages below the space that agrees with those given.
-/// A page may be given more than once. Such a list agrees with each time: where a space that does not
-/// tell its pages gave different bytes for one page, none does, and nothing is said of pages any more.
+/// A page may be given more than once. Such a list agrees with each time: where a space that is not
+/// steady gave different bytes for one page, none does, and nothing is said of pages any more. With a
+/// steady space some list agrees always. A space in memory is steady, and so is one over a file whose
+/// content is told.
 pub trait Pages {
     // The bytes of a page.
     ghost size: { Self → ℕ };
@@ -55,6 +57,9 @@ pub trait Pages {
     // The last fault other than Memory.
     ghost refusal: { Self → Option Fault };
 
+    // Whether a page that such a space gave before is given with the same bytes again.
+    ghost steady: { Bool };
+
     /// The size of a page in bytes.
     fn page_size(&self) -> u32
         ensures value { result ≡ size self.now }
@@ -69,7 +74,7 @@ pub trait Pages {
     /// Copies a page into `buf`: its newest bytes where it was put, else those below the space.
     ///
     /// A page that was not put is given by this. Where it was given before, the space may give other bytes
-    /// now only if it does not tell its pages.
+    /// now only if it is not steady.
     fn get(&mut self, page: u32, buf: &mut [u8]) -> Result<(), SpaceFault>
         requires { length buf.old ≡ size self.old }
         ensures ok { OnOk result ((pages : Paging) → Agrees pages (seen self.new)
@@ -174,4 +179,18 @@ pub trait Pages {
 
     // There is a page 1, and never more pages than there may be.
     ghost within: { (s : Self) → IsInside (limit s) (count s) };
+
+    // Some list of pages agrees with all that a steady space gave.
+    ghost agreed: { steady ≡ true → (s : Self) → (pages : Paging) × Agrees pages (seen s) };
+
+    // A page has 512 bytes at least, and as many pages as there may come to be take 2^30 at most.
+    ghost bounded: { (s : Self) → (512 ≤ size s) × (limit s * size s ≤ 2 ^ 30) };
+
+    // Of pages that stand, the free ones lie from 2 to the number of pages that page 1 names.
+    ghost placed: { (s : Self) → (pages : Paging) → stands s pages
+        → (n : ℕ) → IsTrue (is_free s pages n) → IsLaterPage (number_in (lay (laid s) pages)) n };
+
+    // Where no other adds pages, page 1 of pages that stand names the space's number of pages.
+    ghost named: { (s : Self) → (pages : Paging) → Agrees pages (seen s) → stands s pages
+        → shared s ≡ false → number_in (lay (laid s) pages) ≡ count s };
 }

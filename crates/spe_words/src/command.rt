@@ -5,6 +5,7 @@ ghost use Rattle.spe_words.specs.declared.command.WordsFault.TheVariants.{Memory
 
 use spe_model::{Names, Text};
 use std::alloc::{AllocError, AllocFailed};
+use thiserror::Error;
 
 /// A command with what it was given. `db` is the path of a database file.
 #[derive(Debug, Drop)]
@@ -58,11 +59,13 @@ pub enum Command {
 }
 
 /// Why words give no command.
-#[derive(Clone, Copy, Debug, PartialEq, Eq)]
+#[derive(Clone, Copy, Debug, PartialEq, Eq, Error)]
 pub enum WordsFault {
     /// They ask for no command.
+    #[error("these words are no command")]
     Words,
     /// There was no memory.
+    #[error("out of memory")]
     Memory,
 }
 

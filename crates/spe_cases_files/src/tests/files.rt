@@ -1,8 +1,11 @@
 //! Real files.
 
 use spe_disk::{Disk, Failed, FileNo, Scripts, Sink};
-use spe_files::{FileDisk, FileScripts, OutSink};
-use std::alloc::Global;
+use spe_files::{FileDisk, FileFault, FileScripts, OutSink};
+use std::alloc::{AllocError, Global};
+use std::fs::File;
+use std::process::Abort;
+use std::rt::Files;
 use std::test::Fail;
 use std::{fs, io, process};
 
@@ -64,17 +67,149 @@ fn journals(rt: HostRuntime) -> Result<(), Fail> {
     Ok(())
 }
 
-// A journal of another program stands where the folder of journals is to be.
+// A journal of another program, as it stands beside a database: its front, the value of the bytes
+// behind up to byte 512, where its head ends, and its length. Behind its head stand records.
+type Beside = (&'static [u8], u8, usize);
+
+// Journals that take nothing back. TRUNCATE leaves no byte. PERSIST leaves 28 zeros over the front of
+// the head, the zeros that end the head of a sector, and the records; of a longer sector the head may
+// have gone to any bytes.
+static COLD: [Beside; 4] = [
+    (b"", 0, 0),
+    (&[0; 28], 0, 2576),
+    (&[0; 28], 0, 28),
+    (&[0; 28], 1, 512),
+];
+
+// Journals that may take something back. A program that was killed leaves the magic, how many records
+// there are, a nonce, 2 pages, sectors of 512 bytes and pages of 1024, with or without records; torn
+// ones, and what is no head, can not be told.
+static HOT: [Beside; 8] = [
+    (
+        b"\xd9\xd5\x05\xf9\x20\xa1\x63\xd7\0\0\0\x02\x38\x3a\x70\xb3\0\0\0\x02\0\0\x02\0\0\0\x04\0",
+        0,
+        2576,
+    ),
+    (
+        b"\xd9\xd5\x05\xf9\x20\xa1\x63\xd7\0\0\0\0\x38\x3a\x70\xb3\0\0\0\x02\0\0\x02\0\0\0\x04\0",
+        0,
+        512,
+    ),
+    (b"\xd9\xd5\x05\xf9\x20\xa1\x63\xd7", 0, 511),
+    (b"\xd9", 0, 1),
+    (b"", 0, 1),
+    (b"", 0, 27),
+    (b"", 1, 512),
+    (
+        b"\0\0\0\0\0\0\0\0\0\0\0\0\0\0\0\0\0\0\0\0\0\0\0\0\0\0\0\x01",
+        0,
+        512,
+    ),
+];
+
+// The bytes of such a journal.
+fn bytes_of(alloc: Global, journal: &Beside) -> Result<Vec<u8>, AllocError> {
+    let (front, head, length) = *journal;
+    let mut bytes = vec![in alloc; b'r'; length]?;
+    for place in bytes.iter_mut().take(512) {
+        *place = head;
+    }
+    for (place, byte) in bytes.iter_mut().zip(front) {
+        *place = *byte;
+    }
+    Ok(bytes)
+}
+
+// What a database of some name does with such a journal: whether it attaches, what it says of its
+// fault, and whether journals can be made.
+fn attached<R: Files<File = File>>(
+    rt: &R,
+    alloc: Global,
+    name: &str,
+    journal: &Beside,
+) -> io::Result<(Result<bool, Failed>, Option<FileFault>, Result<u8, Failed>)> {
+    let path = format!(in alloc; "{name}-journal")?;
+    fs::write(rt, path.as_str(), bytes_of(alloc, journal)?.as_slice())?;
+    let mut disk = FileDisk::new(rt, alloc);
+    let found = disk.attach(name);
+    let fault = disk.first_fault();
+    let made = disk.make_journals();
+    fs::remove_file(rt, path.as_str())?;
+    Ok((found, fault, made))
+}
+
+fn expect_cold<R: Abort + Files<File = File>>(
+    rt: &R,
+    alloc: Global,
+    name: &str,
+    journal: &Beside,
+) -> io::Result<()> {
+    let found = attached(rt, alloc, name, journal)?;
+    assert!(rt; found == (Ok(true), None, Err(Failed)));
+    Ok(())
+}
+
+fn expect_hot<R: Abort + Files<File = File>>(
+    rt: &R,
+    alloc: Global,
+    name: &str,
+    journal: &Beside,
+) -> io::Result<()> {
+    let found = attached(rt, alloc, name, journal)?;
+    assert!(rt; found == (Err(Failed), Some(FileFault::StockJournal), Err(Failed)));
+    Ok(())
+}
+
 #[test]
-fn another_journal(rt: HostRuntime) -> Result<(), Fail> {
-    let name = path(rt.alloc(), process::id(rt.process()), "stock")?;
-    let journal = path(rt.alloc(), process::id(rt.process()), "stock-journal")?;
+fn cold_journals_of_others(rt: HostRuntime) -> Result<(), Fail> {
+    let name = path(rt.alloc(), process::id(rt.process()), "cold")?;
+    fs::write(&rt, name.as_str(), b"abcd".as_slice())?;
+    for journal in &COLD {
+        expect_cold(&rt, rt.alloc(), name.as_str(), journal)?;
+    }
+    fs::remove_file(&rt, name.as_str())?;
+    Ok(())
+}
+
+#[test]
+fn hot_journals_of_others(rt: HostRuntime) -> Result<(), Fail> {
+    let name = path(rt.alloc(), process::id(rt.process()), "other")?;
+    fs::write(&rt, name.as_str(), b"abcd".as_slice())?;
+    for journal in &HOT {
+        expect_hot(&rt, rt.alloc(), name.as_str(), journal)?;
+    }
+    fs::remove_file(&rt, name.as_str())?;
+    Ok(())
+}
+
+// Over a cold journal of another program each journal of this one is absent.
+#[test]
+fn no_journal_below_a_file(rt: HostRuntime) -> Result<(), Fail> {
+    let name = path(rt.alloc(), process::id(rt.process()), "below")?;
+    let journal = path(rt.alloc(), process::id(rt.process()), "below-journal")?;
     fs::write(&rt, name.as_str(), b"abcd".as_slice())?;
     fs::write(&rt, journal.as_str(), b"".as_slice())?;
     let mut disk = FileDisk::new(&rt, rt.alloc());
-    assert!(rt; disk.attach(name.as_str()) == Err(Failed));
+    assert!(rt; disk.attach(name.as_str()) == Ok(true));
+    assert!(rt; disk.length(FileNo::Journal(3)) == Ok(None));
+    let mut bytes = [b'x'; 2];
+    assert!(rt; disk.read_at(FileNo::Journal(3), 0, &mut bytes) == Ok(0));
+    assert!(rt; disk.length(FileNo::Database) == Ok(Some(4)));
+    assert!(rt; disk.first_fault() == None);
     fs::remove_file(&rt, journal.as_str())?;
     fs::remove_file(&rt, name.as_str())?;
+    Ok(())
+}
+
+#[test]
+fn a_folder_is_no_database(rt: HostRuntime) -> Result<(), Fail> {
+    let mut disk = FileDisk::new(&rt, rt.alloc());
+    assert!(rt; disk.attach("/tmp") == Err(Failed));
+    assert!(rt; disk.first_fault() == Some(FileFault::NotPlain));
+    let path = disk.path(FileFault::NotPlain)?;
+    assert_eq!(rt; path.as_str(), "/tmp");
+    let path = disk.path(FileFault::StockJournal)?;
+    assert_eq!(rt; path.as_str(), "/tmp-journal");
     Ok(())
 }
 
@@ -97,10 +232,16 @@ fn scripts(rt: HostRuntime) -> Result<(), Fail> {
     Ok(())
 }
 
-// The test prints a line.
+// The test prints two lines.
 #[test]
 fn puts(rt: HostRuntime) {
     let mut sink = OutSink::new(&rt);
     assert!(rt; sink.put(b"") == Ok(0));
     assert!(rt; sink.put(b"put\n") == Ok(4));
+    assert!(rt; sink.head().starts_with(b"put\n\0"));
+    let line = [b'.'; 70];
+    assert!(rt; sink.put(&line) == Ok(70));
+    assert!(rt; sink.put(b"\n") == Ok(1));
+    assert!(rt; sink.head().len() == 64);
+    assert!(rt; sink.head()[60..] == line[..4]);
 }

@@ -1,15 +1,15 @@
 //! What `rows` prints where its words are off, a file is refused, or the outside fails.
 
 use super::files::{PEOPLE, Patch, file_of, lay};
-use super::run::{disk_of, expect, run, sink_of};
+use super::run::{disk_of, expect, expect_of, run, sink_of};
 use std::alloc::{AllocError, Global};
 use std::process::Abort;
 use std::sync::Wait;
 use std::test::Fail;
 use std::thread::Threads;
 
-// Words, and what is printed of them; there is no file.
-static WORDS: [(&[&str], u8, &str); 17] = [
+// Words, and what is printed of them, though the first reading call would fail: the disk is not asked.
+static WORDS: [(&[&str], u8, &str); 15] = [
     (&[], 1, "refused words\n"),
     (&["rows"], 1, "refused words\n"),
     (&["rows", "people.db"], 1, "refused words\n"),
@@ -29,13 +29,6 @@ static WORDS: [(&[&str], u8, &str); 17] = [
         "refused words\n",
     ),
     (&["prepare", "b.db", "17"], 1, "refused words\n"),
-    // a name behind `--` may begin with `-`
-    (
-        &["rows", "--", "-people.db", "p"],
-        2,
-        "refused no-such-database\n",
-    ),
-    (&["check", "b.db"], 2, "refused no-such-database\n"),
     // commands to come
     (&["prepare", "b.db", "2"], 2, "refused not-built\n"),
     (&["release", "b.db"], 2, "refused not-built\n"),
@@ -46,7 +39,8 @@ static WORDS: [(&[&str], u8, &str); 17] = [
 #[test]
 fn words(rt: HostRuntime) -> Result<(), Fail> {
     for (words, status, text) in &WORDS {
-        expect(&rt, rt.alloc(), *words, None, *status, *text)?;
+        let disk = disk_of(rt.alloc(), None, &[1])?;
+        expect_of(&rt, rt.alloc(), *words, disk, *status, *text)?;
     }
     Ok(())
 }
@@ -97,17 +91,25 @@ fn files(rt: HostRuntime) -> Result<(), Fail> {
     Ok(())
 }
 
+// Words of a database that is not there; a name behind `--` may begin with `-`.
+static ABSENT: [&[&str]; 3] = [
+    &["rows", "people.db", "p"],
+    &["rows", "--", "-people.db", "p"],
+    &["check", "b.db"],
+];
+
 #[test]
 fn no_file(rt: HostRuntime) -> Result<(), Fail> {
-    let words = ["rows", "people.db", "p"];
-    expect(
-        &rt,
-        rt.alloc(),
-        &words,
-        None,
-        2,
-        "refused no-such-database\n",
-    )?;
+    for words in &ABSENT {
+        expect(
+            &rt,
+            rt.alloc(),
+            *words,
+            None,
+            2,
+            "refused no-such-database\n",
+        )?;
+    }
     Ok(())
 }
 

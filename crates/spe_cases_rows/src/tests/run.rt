@@ -99,6 +99,20 @@ pub fn expect<R: Threads + Wait + Sync + Abort>(
     text: &str,
 ) -> Result<(), AllocError> {
     let disk = disk_of(alloc, file, &[])?;
+    expect_of(rt, alloc, words, disk, status, text)
+}
+
+/// The same over this disk.
+pub fn expect_of<R: Threads + Wait + Sync + Abort>(
+    rt: &R,
+    alloc: Global,
+    words: &[&str],
+    disk: MemDisk,
+    status: u8,
+    text: &str,
+) -> Result<(), AllocError>
+    requires { is_attached disk ≡ false }
+{
     let sink = sink_of(alloc, 1 << 16, &[])?;
     let ended = run(rt, alloc, words, disk, sink)?;
     assert_eq!(rt; ended.sink.as_slice(), text.as_bytes());

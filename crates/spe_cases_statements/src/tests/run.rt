@@ -65,16 +65,24 @@ fn reply_to(
     }
 }
 
+fn expect_reply(
+    rt: &impl Abort,
+    alloc: Global,
+    database: &mut SlowDb,
+    name: &str,
+    step: &(TxKind, Command, Answer),
+) -> Result<(), AllocError> {
+    let (kind, command, answer) = step;
+    let reply = reply_to(alloc, database, *kind, command)?;
+    assert!(rt; is_reply(&reply, answer), "{reply:?} in {name}");
+    Ok(())
+}
+
 /// Carries out the statements of a case on tables without rows.
 pub fn expect_case(rt: &impl Abort, alloc: Global, case: &Case) -> Result<(), AllocError> {
     let mut database = SlowDb::new(alloc, tables(alloc)?)?;
-    for (i, (kind, command, answer)) in case.steps.iter().enumerate() {
-        let reply = reply_to(alloc, &mut database, *kind, command)?;
-        assert!(rt;
-            is_reply(&reply, answer),
-            "{reply:?} at {i} in {}",
-            case.name
-        );
+    for step in case.steps {
+        expect_reply(rt, alloc, &mut database, case.name, step)?;
     }
     Ok(())
 }

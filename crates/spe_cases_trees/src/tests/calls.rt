@@ -125,6 +125,7 @@ static CALLS: [Calls; 6] = [
         limit: 9,
         loaded: &[(5, 0, &[9; 512])],
         calls: &[
+            (Call::Free(1), Answer::Done),
             (Call::Alloc, Answer::Full(9)),
             (Call::Free(7), Answer::Done),
             (Call::Free(5), Answer::Done),
@@ -243,11 +244,23 @@ fn held_of(alloc: Global, calls: &Calls) -> Result<Held, AllocError> {
     Ok(filling.into_held())
 }
 
+fn expect_call(
+    rt: &impl Abort,
+    alloc: Global,
+    held: &mut Held,
+    name: &str,
+    call: Call,
+    answer: Answer,
+) -> Result<(), AllocError> {
+    let given = answer_of(alloc, held, call)?;
+    assert_eq!(rt; given, answer, "{call:?} of {name}");
+    Ok(())
+}
+
 fn expect_calls(rt: &impl Abort, alloc: Global, calls: &Calls) -> Result<(), AllocError> {
     let mut held = held_of(alloc, calls)?;
     for (call, answer) in calls.calls {
-        let given = answer_of(alloc, &mut held, *call)?;
-        assert_eq!(rt; given, *answer, "{call:?} of {}", calls.name);
+        expect_call(rt, alloc, &mut held, calls.name, *call, *answer)?;
     }
     Ok(())
 }

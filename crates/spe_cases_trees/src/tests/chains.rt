@@ -85,15 +85,16 @@ static CHAINS: [Chain; 16] = [
         first: 0,
         order: &[],
         last: 0,
-        answer: Answer::Corrupt(0),
+        answer: Answer::Out(0),
     },
+    // No page is asked for.
     Chain {
         name: "a first page for nothing",
         bytes: 0,
         first: 3,
         order: &[3],
         last: 0,
-        answer: Answer::Corrupt(3),
+        answer: Answer::Well,
     },
     Chain {
         name: "the first page is the last",

@@ -4,9 +4,10 @@ ghost use Rattle.std.specs.Prelude.{◌≡◌, IfOk, None};
 ghost use Rattle.spe_space.specs.View.{map_refusal};
 
 use crate::tests::space::{Filling, lay};
-use spe_catalog::{leaf, read_catalog};
+use spe_catalog::read_catalog;
 use spe_freelist::read_node;
 use spe_model::Entry;
+use spe_search::range_with_leaves;
 use spe_space::{MapSpace, TreeFault};
 use std::alloc::{AllocError, Global};
 use std::fmt::Write;
@@ -129,7 +130,7 @@ fn catalog(rt: HostRuntime) -> Result<(), Fail> {
 }
 
 // Damage to the schema whose leaves are 8 and 7, and the leaf that is named for it.
-static DAMAGES: [(&str, &[Patch], u32); 10] = [
+static DAMAGES: [(&str, &[Patch], u32); 11] = [
     ("no record in row 3", &[(3948, b"\x0a")], 8),
     ("no record in row 9", &[(3618, b"\x0a")], 8),
     ("no record in row 10", &[(3554, b"\x0a")], 7),
@@ -146,6 +147,12 @@ static DAMAGES: [(&str, &[Patch], u32); 10] = [
         "a root past 32 bits in row 10",
         &[(3557, b"\x05%"), (3566, b"\x00\x01\x00\x00\x00\x00")],
         7,
+    ),
+    // The key lies below the row, so a search for its rowid would end on page 7.
+    (
+        "no record in row 9 under the key 2",
+        &[(511, b"\x02"), (3618, b"\x0a")],
+        8,
     ),
     (
         "no record in the rows 3 and 10",
@@ -186,8 +193,21 @@ fn damages(rt: HostRuntime) -> Result<(), Fail> {
     Ok(())
 }
 
-// A rowid, and the leaf of the schema in which it belongs.
-static LEAVES: [(i64, u32); 5] = [(i64::MIN, 8), (1, 8), (9, 8), (10, 7), (i64::MAX, 7)];
+// The rowid of a row of the schema, and the leaf that it is read from.
+static LEAVES: [(i64, u32); 4] = [(1, 8), (3, 8), (9, 8), (10, 7)];
+
+// The leaf of the row, or 0 where it is not the only one.
+fn leaf_of(alloc: Global, space: &mut MapSpace, rowid: i64) -> u32
+    requires { map_refusal space.old ≡ None }
+{
+    match range_with_leaves(alloc, space, 1, rowid, rowid) {
+        Ok(pairs) => match pairs.as_slice() {
+            [pair] => pair.leaf,
+            _ => 0,
+        },
+        Err(_) => 0,
+    }
+}
 
 fn expect_leaf<R: Abort>(
     rt: &R,
@@ -197,8 +217,7 @@ fn expect_leaf<R: Abort>(
     page: u32,
 ) -> Result<(), AllocError> {
     let mut space = space_of(alloc, 9, file)?;
-    let found = leaf(alloc, &mut space, 1, rowid);
-    assert_eq!(rt; found, Ok(page), "{rowid}");
+    assert_eq!(rt; leaf_of(alloc, &mut space, rowid), page, "{rowid}");
     Ok(())
 }
 

@@ -99,19 +99,44 @@ fn expect_largest(rt: &impl Abort, alloc: Global, table: &Table) -> Result<(), A
     Ok(())
 }
 
-fn expect_table(rt: &impl Abort, alloc: Global, table: &Table) -> Result<(), AllocError> {
-    expect_range(rt, alloc, table, i64::MIN, i64::MAX, table.rows)?;
-    expect_largest(rt, alloc, table)?;
+// The rows of a table from one place up to another, without it, lie between two rowids.
+fn expect_part(
+    rt: &impl Abort,
+    alloc: Global,
+    table: &Table,
+    part: (i64, i64, usize, usize),
+) -> Result<(), AllocError> {
+    let (low, high, from, to) = part;
+    match table.rows.get(from..to) {
+        Some(rows) => expect_range(rt, alloc, table, low, high, rows),
+        None => {
+            assert!(rt; false, "no rows {from} to {to} in {}", table.name);
+            Ok(())
+        }
+    }
+}
+
+fn expect_rows(rt: &impl Abort, alloc: Global, table: &Table) -> Result<(), AllocError> {
     for (rowid, payload) in table.rows {
         expect_found(rt, alloc, table, *rowid, Some(*payload))?;
     }
+    Ok(())
+}
+
+fn expect_gaps(rt: &impl Abort, alloc: Global, table: &Table) -> Result<(), AllocError> {
     for rowid in table.gaps {
         expect_found(rt, alloc, table, *rowid, None)?;
     }
-    for (low, high, from, to) in table.parts {
-        let rows = table.rows.get(*from..*to).unwrap_or(&[]);
-        assert_eq!(rt; rows.len(), to.wrapping_sub(*from));
-        expect_range(rt, alloc, table, *low, *high, rows)?;
+    Ok(())
+}
+
+fn expect_table(rt: &impl Abort, alloc: Global, table: &Table) -> Result<(), AllocError> {
+    expect_range(rt, alloc, table, i64::MIN, i64::MAX, table.rows)?;
+    expect_largest(rt, alloc, table)?;
+    expect_rows(rt, alloc, table)?;
+    expect_gaps(rt, alloc, table)?;
+    for part in table.parts {
+        expect_part(rt, alloc, table, *part)?;
     }
     Ok(())
 }

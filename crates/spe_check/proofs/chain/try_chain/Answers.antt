@@ -1,5 +1,5 @@
 use Rattle.std.proofs.Common.{◌∙◌, arith}
-use Rattle.spe_check.proofs.ChainLemmas.{along_next, along_stop, along_end}
+use Rattle.spe_check.proofs.ChainLemmas.{along_next, along_halt, along_end}
 use Rattle.spe_check.proofs.ShownLemmas.{shows_before, walked_both, broken_refuses_last}
 use Rattle.spe_check.proofs.chain.try_chain.Goals as goal
 
@@ -7,8 +7,8 @@ pub returns-in-Err-clause-tried : goal.returns-in-Err-clause-tried
 returns-in-Err-clause-tried g c = λ usable pages shows.
     let now = shows_before g.S.Pages c.links.space c.try_link.new.space usable pages c.in-Err.ensures.walked.reads shows in
     let size = now.used ∙ c.links.invariant.walked.reads.used in (
-      along_stop usable pages c.args.met.now c.links.met c.try_link.new.met c.args.holder c.args.first c.args.bytes c.args.wanted c.args.out.now.items c.links.out.items
-          c.links.at c.links.page c.links.left c.in-Err.stop (omega (arith, size, c.usable-usable.ensures.value, c.usable-usable.ensures.range.0)) c.links-test.true c.links.invariant.walked.pages
+      along_halt usable pages c.args.met.now c.links.met c.try_link.new.met c.args.holder c.args.first c.args.bytes c.args.wanted c.args.out.now.items c.links.out.items
+          c.links.at c.links.page c.links.left c.in-Err.halt (omega (arith, size, c.usable-usable.ensures.value, c.usable-usable.ensures.range.0)) c.links-test.true c.links.invariant.walked.pages
           (c.links.invariant.along usable pages now) (c.in-Err.ensures.tried usable pages shows).0,
       tt,
     )

@@ -10,8 +10,8 @@ use Rattle.spe_check.proofs.free_lists.try_lists.Goals as goal
 pub returns-in-Err-clause-tried : goal.returns-in-Err-clause-tried
 returns-in-Err-clause-tried g c = λ usable pages shows.
     let now = shows_before g.S.Pages c.loop-index.space c.try_list.new.space usable pages c.in-Err.ensures.walked.reads shows in
-    let T : ℕ → Type 0 = λ n. TriesPages c.loop-index.met c.try_list.new.met (list_marks usable c.loop-index.met.pages pages c.args.node n) (walk_trunks pages c.loop-index.met.pages n) (the_err ℕ c.in-Err.stop) in
-    among_break usable pages c.args.met.now c.loop-index.met c.try_list.new.met c.args.node c.loop-index.index c.args.count c.loop-index.free c.args.names.now c.in-Err.stop
+    let T : ℕ → Type 0 = λ n. TriesPages c.loop-index.met c.try_list.new.met (list_marks usable c.loop-index.met.pages pages c.args.node n) (walk_trunks pages c.loop-index.met.pages n) (the_err ℕ c.in-Err.halt) in
+    among_break usable pages c.args.met.now c.loop-index.met c.try_list.new.met c.args.node c.loop-index.index c.args.count c.loop-index.free c.args.names.now c.in-Err.halt
     c.loop-index-test.true c.loop-index.invariant.walked.pages (c.loop-index.invariant.among usable pages now) (subst T c.u32_of-first.ensures (c.in-Err.ensures.tried usable pages shows))
 
 pub loop-index-preserved : goal.loop-index-preserved

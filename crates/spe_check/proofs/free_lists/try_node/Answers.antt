@@ -1,11 +1,11 @@
 use Rattle.spe_check.specs.MetPages.{has_met}
-use Rattle.spe_check.proofs.FreeLemmas.{names_are, node_lists, node_meets, node_stop}
+use Rattle.spe_check.proofs.FreeLemmas.{names_are, node_lists, node_meets, node_halt}
 use Rattle.spe_check.proofs.ShownLemmas.{shows_before}
 use Rattle.spe_check.proofs.free_lists.try_node.Goals as goal
 
 pub returns-in-Err-clause-tried : goal.returns-in-Err-clause-tried
 returns-in-Err-clause-tried g c = λ usable pages shows. (
-  node_meets usable c.args.met.now.pages pages (has_met c.args.met.now) (has_met c.get_met.new.met) c.args.node c.in-Err.stop (c.in-Err.ensures.tried usable pages shows).0,
+  node_meets usable c.args.met.now.pages pages (has_met c.args.met.now) (has_met c.get_met.new.met) c.args.node c.in-Err.halt (c.in-Err.ensures.tried usable pages shows).0,
   tt,
 )
 
@@ -13,7 +13,7 @@ pub returns-in-Err-try_rule-clause-tried : goal.returns-in-Err-try_rule-clause-t
 returns-in-Err-try_rule-clause-tried g c = λ usable pages shows.
     let got = c.in-Ok.ensures.tried usable pages shows in
     let names = names_are pages c.args.node _ _ c.names_in-names.result c.usable-usable.ensures.range.0 got.1 c.names_in-names.ensures in (
-      node_stop usable c.args.met.now.pages pages (has_met c.args.met.now) (has_met c.get_met.new.met) c.args.node c.u32_of-count.result c.is_list_count.result c.names_in-names.result c.in-Err-try_rule.stop
+      node_halt usable c.args.met.now.pages pages (has_met c.args.met.now) (has_met c.get_met.new.met) c.args.node c.u32_of-count.result c.is_list_count.result c.names_in-names.result c.in-Err-try_rule.halt
           names c.u32_of-count.ensures c.is_list_count.ensures got.0 (c.in-Err-try_rule.ensures.tried c.args.met.now.pages (has_met c.get_met.new.met)),
       tt,
     )

@@ -6,14 +6,14 @@ use Rattle.spe_check.specs.IndexTree.{IsFanned}
 use Rattle.spe_check.specs.MetPages.{has_met}
 use Rattle.spe_check.specs.Pages.{behind_read}
 use Rattle.spe_check.specs.Tries.{Tries}
-use Rattle.spe_check.proofs.IndexLemmas.{some_level, child_stands, fanned_first, fanned_next, fanned_rest, fanned_chain, fanned_stop, fanned_last, front_is, index_read, index_stop, leaf_last, stands_at}
+use Rattle.spe_check.proofs.IndexLemmas.{some_level, child_stands, fanned_first, fanned_next, fanned_rest, fanned_chain, fanned_halt, fanned_last, front_is, index_read, index_halt, leaf_last, stands_at}
 use Rattle.spe_check.proofs.PageLemmas.{first_at_leaf, from_read, unread, walked_none}
 use Rattle.spe_check.proofs.ShownLemmas.{shows_before, walked_both}
 use Rattle.spe_check.proofs.index_tree.+index.Goals as goal
 
 pub walk_index-returns-in-Err-clause-tried : goal.walk_index-returns-in-Err-clause-tried
 walk_index-returns-in-Err-clause-tried g t c = λ usable pages shows stand is. (
-  unread c.args.met.now.pages (has_met c.args.met.now) (has_met c.read_met.new.met) usable pages c.args.holder c.args.page (index_marks usable pages stand c.args.levels c.args.holder c.args.page) c.in-Err.stop
+  unread c.args.met.now.pages (has_met c.args.met.now) (has_met c.read_met.new.met) usable pages c.args.holder c.args.page (index_marks usable pages stand c.args.levels c.args.holder c.args.page) c.in-Err.halt
       (index_read usable pages stand c.args.levels c.args.holder c.args.page) (c.in-Err.ensures.tried usable pages shows).0,
   tt,
 )
@@ -31,7 +31,7 @@ walk_index-returns-clause-tried g t c = λ usable pages shows stand is.
 
 pub walk_index_from-returns-in-Err-clause-tried : goal.walk_index_from-returns-in-Err-clause-tried
 walk_index_from-returns-in-Err-clause-tried g t c = λ usable pages shows stand holder at is. (
-  index_stop c.args.met.now.pages (has_met c.args.met.now) usable pages stand c.args.levels holder c.args.page c.args.node.now c.in-Err.stop at
+  index_halt c.args.met.now.pages (has_met c.args.met.now) usable pages stand c.args.levels holder c.args.page c.args.node.now c.in-Err.halt at
       (c.in-Err.ensures.tried c.args.met.now.pages (has_met c.args.met.now) stand (levels_at_leaf usable pages c.args.levels c.args.page) is
       (first_at_leaf usable pages c.args.levels c.args.page c.args.node.now at)),
   tt,
@@ -71,8 +71,8 @@ walk_index_from-returns-in-Err-walk_index-clause-tried g t c = λ usable pages s
     let all = behind_read (index_marks usable pages stand c.args.levels holder c.args.page) in
     let child = c.in-Err-walk_index.ensures.tried usable pages shows stand
     (child_stands usable pages c.args.met.now c.children.met all stand c.args.levels c.args.page c.children.stand c.children.left.now (drop 1 c.children.left.now) c.cell-item.result _ front fanned) in (
-      fanned_stop usable pages c.args.met.now c.children.met c.walk_index.new.met all stand c.args.levels c.args.page c.children.stand
-          c.children.left.now (drop 1 c.children.left.now) c.cell-item.result _ c.in-Err-walk_index.stop c.children.invariant.walked.pages front fanned child.0,
+      fanned_halt usable pages c.args.met.now c.children.met c.walk_index.new.met all stand c.args.levels c.args.page c.children.stand
+          c.children.left.now (drop 1 c.children.left.now) c.cell-item.result _ c.in-Err-walk_index.halt c.children.invariant.walked.pages front fanned child.0,
       tt,
     )
 
@@ -86,7 +86,7 @@ walk_index_from-returns-in-Err-try_cell-clause-tried g t c = λ usable pages sho
     let child = c.in-Ok-walk_index.ensures.tried usable pages mid stand
     (child_stands usable pages c.args.met.now c.children.met all stand c.args.levels c.args.page c.children.stand c.children.left.now (drop 1 c.children.left.now) c.cell-item.result _ front fanned) in (
       fanned_chain usable pages c.args.met.now c.children.met c.walk_index.new.met c.try_cell.new.met all stand c.args.levels c.args.page c.in-Ok-walk_index.level c.children.stand
-          c.children.left.now (drop 1 c.children.left.now) c.cell-item.result _ c.in-Err-try_cell.stop c.children.invariant.walked.pages (c.in-Ok-walk_index.ensures.walked.pages ∙ c.children.invariant.walked.pages)
+          c.children.left.now (drop 1 c.children.left.now) c.cell-item.result _ c.in-Err-try_cell.halt c.children.invariant.walked.pages (c.in-Ok-walk_index.ensures.walked.pages ∙ c.children.invariant.walked.pages)
           front fanned child.0 (c.in-Err-try_cell.ensures.tried usable pages shows),
       tt,
     )

@@ -15,5 +15,5 @@ returns-in-Ok-clause-tried g c = λ usable pages shows holder is.
 pub returns-clause-tried : goal.returns-clause-tried
 returns-clause-tried g c = λ usable pages shows holder is.
     let P : ℕ → Type 0 = λ n. Tries c.args.met.now.pages (has_met c.args.met.now) (has_met c.walk_index_from.new.met)
-    (behind_read (index_marks usable pages (levels_at_leaf usable pages n c.args.root) n holder c.args.root)) (the_err ℕ c.in-Err.stop) in
+    (behind_read (index_marks usable pages (levels_at_leaf usable pages n c.args.root) n holder c.args.root)) (the_err ℕ c.in-Err.halt) in
     (subst P c.tree_levels-levels.ensures (c.in-Err.ensures.tried usable pages shows (levels_at_leaf usable pages c.tree_levels-levels.result c.args.root) holder is refl).0, tt)

@@ -2,11 +2,11 @@ use Rattle.std.proofs.Common.{◌≡◌, ◌∙◌, ℕ, sym, subst, arith}
 use Rattle.std.specs.Prelude.{IfOk}
 use Rattle.spe_model.specs.Schema.{SchemaRow}
 use Rattle.spe_model.specs.Verdict.{object_marks, open_rows}
-use Rattle.spe_check.specs.declared.stop.Stop.TheVariants.{Broken}
+use Rattle.spe_check.specs.declared.halt.Halt.TheVariants.{Broken}
 use Rattle.spe_check.specs.MetPages.{has_met}
 use Rattle.spe_check.specs.RecordRows.{saturated}
 use Rattle.spe_check.specs.Tries.{Tries}
-use Rattle.spe_check.proofs.ObjectLemmas.{object_none, object_out, object_stops, object_tried, of_pair}
+use Rattle.spe_check.proofs.ObjectLemmas.{object_none, object_out, object_halts, object_tried, of_pair}
 use Rattle.spe_check.proofs.ShownLemmas.{shows_before}
 use Rattle.spe_check.proofs.TriesLemmas.{the_ok, the_err}
 use Rattle.spe_check.proofs.objects.try_object.Goals as goal
@@ -28,9 +28,9 @@ returns-then-root-eq0-clause-tried g c = λ usable pages shows attaches.
 
 pub returns-in-Err-clause-tried : goal.returns-in-Err-clause-tried
 returns-in-Err-clause-tried g c = λ usable pages shows attaches.
-    let P : ℕ × SchemaRow → Type 0 = λ p. Tries c.args.met.now.pages (has_met c.args.met.now) (has_met c.read_met.new.met) (object_marks usable pages p) (the_err ℕ c.in-Err.stop) in (
+    let P : ℕ × SchemaRow → Type 0 = λ p. Tries c.args.met.now.pages (has_met c.args.met.now) (has_met c.read_met.new.met) (object_marks usable pages p) (the_err ℕ c.in-Err.halt) in (
       subst P (of_pair c.leaf-leaf.result c.row-row.result.now c.args.placed.now c.leaf-leaf.ensures c.row-row.ensures)
-          (object_stops usable pages c.args.met.now.pages (has_met c.args.met.now) (has_met c.read_met.new.met) c.leaf-leaf.result c.row-row.result.now c.in-Some.root c.in-Err.stop
+          (object_halts usable pages c.args.met.now.pages (has_met c.args.met.now) (has_met c.read_met.new.met) c.leaf-leaf.result c.row-row.result.now c.in-Some.root c.in-Err.halt
           c.in-Some.ensures.1 (grind (arith, c.if-root-eq0.false)) (c.in-Err.ensures.tried usable pages shows).0),
       tt,
     )

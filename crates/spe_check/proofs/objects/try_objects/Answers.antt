@@ -3,7 +3,7 @@ use Rattle.std.proofs.lemmas.Grind.{common_steps}
 use Rattle.spe_model.specs.Schema.{SchemaRow}
 use Rattle.spe_catalog.specs.Table.{Attaches}
 use Rattle.spe_check.proofs.IndexLemmas.{front_is}
-use Rattle.spe_check.proofs.ObjectLemmas.{tried_next, tried_rest, tried_stop, tried_end}
+use Rattle.spe_check.proofs.ObjectLemmas.{tried_next, tried_rest, tried_halt, tried_end}
 use Rattle.spe_check.proofs.ShownLemmas.{shows_before, walked_both}
 use Rattle.spe_check.proofs.objects.try_objects.Goals as goal
 
@@ -11,7 +11,7 @@ pub returns-in-Err-clause-tried : goal.returns-in-Err-clause-tried
 returns-in-Err-clause-tried g c = λ usable pages shows rows_are.
     let now = shows_before g.S.Pages c.objects.space c.try_object.new.space usable pages c.in-Err.ensures.walked.reads shows in
     let A : List SchemaRow → Type 0 = λ rows. Attaches rows c.in_ok-attached.attached in (
-      tried_stop usable pages c.args.met.now c.objects.met c.try_object.new.met c.args.placed.now c.objects.left.now (drop 1 c.objects.left.now) c.first-item.result c.objects.rows c.in-Err.stop
+      tried_halt usable pages c.args.met.now c.objects.met c.try_object.new.met c.args.placed.now c.objects.left.now (drop 1 c.objects.left.now) c.first-item.result c.objects.rows c.in-Err.halt
           c.objects.invariant.walked.pages (front_is c.objects.left.now c.first-item.result c.in-len1-up.len_at_least c.first-item.is) (c.objects.invariant.tried usable pages now rows_are)
           (c.in-Err.ensures.tried usable pages shows (subst A rows_are c.in_ok-attached.ensures)).0,
       tt,

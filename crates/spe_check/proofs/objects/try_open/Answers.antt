@@ -27,7 +27,7 @@ returns-in-Ok-clause-tried g c = λ usable pages shows holder is.
 pub returns-clause-tried : goal.returns-clause-tried
 returns-clause-tried g c = λ usable pages shows holder is.
     let P : ℕ → ℕ → Type 0 = λ k n. Tries c.args.met.now.pages (has_met c.args.met.now) (has_met c.walk_table_from.new.met)
-    (behind_read (table_marks (record_marks k) usable pages (levels_at_leaf usable pages n c.args.root) n 0 18446744073709551616 holder c.args.root)) (the_err ℕ c.in-Err.stop) in
+    (behind_read (table_marks (record_marks k) usable pages (levels_at_leaf usable pages n c.args.root) n 0 18446744073709551616 holder c.args.root)) (the_err ℕ c.in-Err.halt) in
     let tried = c.in-Err.ensures.tried usable pages shows (levels_at_leaf usable pages c.tree_levels-levels.result c.args.root) holder [] is refl (at_most_itself 0) in
     let Q : ℕ → Type 0 = λ k. P k tree_levels in
     (subst Q c.new-rows.ensures.columns (subst (P c.new-rows.result.columns) c.tree_levels-levels.ensures tried.0), tt)

@@ -6,15 +6,15 @@ use Rattle.spe_model.specs.Walk.{Names, Keeps, is_legal}
 use Rattle.spe_model.specs.Tree.{node_at}
 use Rattle.spe_check.specs.MetPages.{has_met}
 use Rattle.spe_check.specs.Pages.{IsReading}
-use Rattle.spe_check.proofs.TriesLemmas.{tries_stop}
+use Rattle.spe_check.proofs.TriesLemmas.{tries_halt}
 use Rattle.spe_check.proofs.PageLemmas.{node_is, read_last, read_refuses}
 use Rattle.spe_check.proofs.SortLemmas.{read_sort}
 use Rattle.spe_check.proofs.page.read_met.Goals as goal
 
 pub returns-in-Err-clause-tried : goal.returns-in-Err-clause-tried
 returns-in-Err-clause-tried g c = λ usable pages shows. (
-  tries_stop (Unit {0}) PageCells c.args.met.now.pages (has_met c.args.met.now) (has_met c.meet.new.self) (has_met c.meet.new.self)
-      (Names c.args.holder c.args.page ∷ []) (Keeps c.args.page 3 (is_legal (node_at usable pages c.args.page)) ∷ []) c.in-Err.stop c.in-Err.ensures.tried,
+  tries_halt (Unit {0}) PageCells c.args.met.now.pages (has_met c.args.met.now) (has_met c.meet.new.self) (has_met c.meet.new.self)
+      (Names c.args.holder c.args.page ∷ []) (Keeps c.args.page 3 (is_legal (node_at usable pages c.args.page)) ∷ []) c.in-Err.halt c.in-Err.ensures.tried,
   tt,
 )
 

@@ -10,15 +10,15 @@ use Rattle.spe_check.specs.Tries.{Tries}
 use Rattle.spe_check.proofs.IndexLemmas.{some_level, front_is, stands_at}
 use Rattle.spe_check.proofs.PageLemmas.{first_at_leaf, from_read, unread, walked_none}
 use Rattle.spe_check.proofs.ShownLemmas.{shows_before, walked_both}
-use Rattle.spe_check.proofs.TableLemmas.{rows_last, table_read, table_stop}
-use Rattle.spe_check.proofs.TableFanLemmas.{child_stop, key_stop, table_child_stands, table_fanned_first, table_fanned_last, table_fanned_next, table_fanned_rest}
+use Rattle.spe_check.proofs.TableLemmas.{rows_last, table_read, table_halt}
+use Rattle.spe_check.proofs.TableFanLemmas.{child_halt, key_halt, table_child_stands, table_fanned_first, table_fanned_last, table_fanned_next, table_fanned_rest}
 use Rattle.spe_check.proofs.table_tree.+table.Goals as goal
 
 pub walk_table-returns-in-Err-clause-tried : goal.walk_table-returns-in-Err-clause-tried
 walk_table-returns-in-Err-clause-tried g t c = λ usable pages shows stand later is floor.
     let own = (g.V.RowVisitor.outlook c.args.visitor.now (walk_rows usable pages c.args.levels c.args.page ++ later)).marks in (
       unread c.args.met.now.pages (has_met c.args.met.now) (has_met c.read_met.new.met) usable pages c.args.holder c.args.page
-          (table_marks own usable pages stand c.args.levels (low_of c.args.low) (high_of c.args.high) c.args.holder c.args.page) c.in-Err.stop
+          (table_marks own usable pages stand c.args.levels (low_of c.args.low) (high_of c.args.high) c.args.holder c.args.page) c.in-Err.halt
           (table_read own usable pages stand c.args.levels (low_of c.args.low) (high_of c.args.high) c.args.holder c.args.page) (c.in-Err.ensures.tried usable pages shows).0,
       tt,
       tt,
@@ -40,7 +40,7 @@ walk_table-returns-clause-tried g t c = λ usable pages shows stand later is flo
 pub walk_table_from-returns-in-Err-clause-tried : goal.walk_table_from-returns-in-Err-clause-tried
 walk_table_from-returns-in-Err-clause-tried g t c = λ usable pages shows stand holder later at is floor.
     let own = (g.V.RowVisitor.outlook c.args.visitor.now (walk_rows usable pages c.args.levels c.args.page ++ later)).marks in (
-      table_stop c.args.met.now.pages (has_met c.args.met.now) own usable pages stand c.args.levels (low_of c.args.low) (high_of c.args.high) holder c.args.page c.args.node.now c.in-Err.stop at
+      table_halt c.args.met.now.pages (has_met c.args.met.now) own usable pages stand c.args.levels (low_of c.args.low) (high_of c.args.high) holder c.args.page c.args.node.now c.in-Err.halt at
           (c.in-Err.ensures.tried c.args.met.now.pages (has_met c.args.met.now) stand (levels_at_leaf usable pages c.args.levels c.args.page) is
           (first_at_leaf usable pages c.args.levels c.args.page c.args.node.now at)),
       tt,
@@ -97,8 +97,8 @@ walk_table_from-returns-in-Err-walk_table-clause-tried g t c = λ usable pages s
     let stands = table_child_stands v usable pages c.args.met.now c.children.met c.children.visitor outlook later all stand c.args.levels (low_of c.children.above) (high_of c.args.high) c.args.page c.children.stand
     c.children.left.now rest c.cell-item.result c.args.node.now.right front fanned in
     let child = c.in-Err-walk_table.ensures.tried usable pages shows stand (fan_rows (walk_rows usable pages (c.args.levels - 1)) rest c.args.node.now.right ++ later) stands (c.children.invariant.floor floor) in (
-      child_stop v usable pages c.args.met.now c.children.met c.walk_table.new.met c.children.visitor outlook later all stand c.args.levels (low_of c.children.above) (high_of c.args.high) c.args.page
-          (high_of c.key_of-key.result) c.children.stand c.children.left.now rest c.cell-item.result c.args.node.now.right c.in-Err-walk_table.stop c.children.invariant.walked.pages front c.key_of-key.ensures.high fanned child.0,
+      child_halt v usable pages c.args.met.now c.children.met c.walk_table.new.met c.children.visitor outlook later all stand c.args.levels (low_of c.children.above) (high_of c.args.high) c.args.page
+          (high_of c.key_of-key.result) c.children.stand c.children.left.now rest c.cell-item.result c.args.node.now.right c.in-Err-walk_table.halt c.children.invariant.walked.pages front c.key_of-key.ensures.high fanned child.0,
       tt,
       tt,
     )
@@ -115,8 +115,8 @@ walk_table_from-returns-in-Err-try_bound-clause-tried g t c = λ usable pages sh
     let stands = table_child_stands v usable pages c.args.met.now c.children.met c.children.visitor outlook later all stand c.args.levels (low_of c.children.above) (high_of c.args.high) c.args.page c.children.stand
     c.children.left.now rest c.cell-item.result c.args.node.now.right front fanned in
     let child = c.in-Ok-walk_table.ensures.tried usable pages shows stand (fan_rows (walk_rows usable pages (c.args.levels - 1)) rest c.args.node.now.right ++ later) stands (c.children.invariant.floor floor) in (
-      key_stop v usable pages c.args.met.now c.children.met c.walk_table.new.met c.children.visitor outlook later all stand c.args.levels (low_of c.children.above) (high_of c.args.high) c.args.page
-          (high_of c.key_of-key.result) c.in-Ok-walk_table.level c.children.stand c.children.left.now rest c.cell-item.result c.args.node.now.right c.in-Err-try_bound.stop c.children.invariant.walked.pages front
+      key_halt v usable pages c.args.met.now c.children.met c.walk_table.new.met c.children.visitor outlook later all stand c.args.levels (low_of c.children.above) (high_of c.args.high) c.args.page
+          (high_of c.key_of-key.result) c.in-Ok-walk_table.level c.children.stand c.children.left.now rest c.cell-item.result c.args.node.now.right c.in-Err-try_bound.halt c.children.invariant.walked.pages front
           c.key_of-key.ensures.high fanned child.0 (c.in-Err-try_bound.ensures.tried c.args.met.now.pages (has_met c.walk_table.new.met)),
       tt,
       tt,

@@ -2,20 +2,20 @@ use Rattle.std.proofs.Common.{◌∙◌, ◌∷◌, arith}
 use Rattle.spe_model.specs.Tree.{payload_of}
 use Rattle.spe_check.specs.MetPages.{has_met}
 use Rattle.spe_check.specs.TableTree.{low_of, high_of, row_of}
-use Rattle.spe_check.proofs.TableLemmas.{bound_stop, chain_stop, row_last}
+use Rattle.spe_check.proofs.TableLemmas.{bound_halt, chain_halt, row_last}
 use Rattle.spe_check.proofs.table_tree.try_row.Goals as goal
 
 pub returns-in-Err-clause-tried : goal.returns-in-Err-clause-tried
 returns-in-Err-clause-tried g c = λ usable pages shows later floor. (
-  bound_stop c.args.met.now.pages (has_met c.args.met.now) (g.V.RowVisitor.outlook c.args.visitor.now (row_of usable pages c.args.page c.args.cell.now ∷ later)).marks usable pages c.args.page
-      (low_of c.args.low) (high_of c.args.high) c.args.cell.now c.in-Err.stop (c.in-Err.ensures.tried c.args.met.now.pages (has_met c.args.met.now)),
+  bound_halt c.args.met.now.pages (has_met c.args.met.now) (g.V.RowVisitor.outlook c.args.visitor.now (row_of usable pages c.args.page c.args.cell.now ∷ later)).marks usable pages c.args.page
+      (low_of c.args.low) (high_of c.args.high) c.args.cell.now c.in-Err.halt (c.in-Err.ensures.tried c.args.met.now.pages (has_met c.args.met.now)),
   tt,
 )
 
 pub returns-in-Err-take_payload-clause-tried : goal.returns-in-Err-take_payload-clause-tried
 returns-in-Err-take_payload-clause-tried g c = λ usable pages shows later floor. (
-  chain_stop c.args.met.now.pages (has_met c.args.met.now) (has_met c.take_payload.new.met) (g.V.RowVisitor.outlook c.args.visitor.now (row_of usable pages c.args.page c.args.cell.now ∷ later)).marks usable pages c.args.page
-      (low_of c.args.low) (high_of c.args.high) c.args.cell.now c.in-Err-take_payload.stop (c.in-Ok.ensures.tried c.args.met.now.pages (has_met c.args.met.now))
+  chain_halt c.args.met.now.pages (has_met c.args.met.now) (has_met c.take_payload.new.met) (g.V.RowVisitor.outlook c.args.visitor.now (row_of usable pages c.args.page c.args.cell.now ∷ later)).marks usable pages c.args.page
+      (low_of c.args.low) (high_of c.args.high) c.args.cell.now c.in-Err-take_payload.halt (c.in-Ok.ensures.tried c.args.met.now.pages (has_met c.args.met.now))
       (c.in-Err-take_payload.ensures.tried usable pages shows).0,
   tt,
 )

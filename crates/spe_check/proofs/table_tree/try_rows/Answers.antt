@@ -4,7 +4,7 @@ use Rattle.spe_model.specs.Tree.{rank}
 use Rattle.spe_model.specs.Walk.{leaf_marks, leaf_rows}
 use Rattle.spe_check.specs.TableTree.{low_of, high_of}
 use Rattle.spe_check.proofs.IndexLemmas.{front_is}
-use Rattle.spe_check.proofs.TableLemmas.{row_next, row_stop, rows_end, rows_rest}
+use Rattle.spe_check.proofs.TableLemmas.{row_next, row_halt, rows_end, rows_rest}
 use Rattle.spe_check.proofs.ShownLemmas.{shows_before, walked_both}
 use Rattle.spe_check.proofs.table_tree.try_rows.Goals as goal
 
@@ -15,9 +15,9 @@ returns-in-Err-clause-tried g c = λ usable pages shows later floor.
     let front = front_is c.rows.left.now c.cell-item.result c.in-len1-up.len_at_least c.cell-item.is in
     let outlook = v.outlook c.args.visitor.now (leaf_rows usable pages c.args.page c.args.cells.now ++ later) in
     let tried = c.in-Err.ensures.tried usable pages shows (leaf_rows usable pages c.args.page (drop 1 c.rows.left.now) ++ later) (c.rows.invariant.floor floor) in (
-      row_stop v usable pages c.args.met.now c.rows.met c.try_row.new.met c.rows.visitor outlook later
+      row_halt v usable pages c.args.met.now c.rows.met c.try_row.new.met c.rows.visitor outlook later
           (leaf_marks outlook.marks usable pages c.args.page (low_of c.args.low) (high_of c.args.high) c.args.cells.now) c.args.page (low_of c.rows.above) (high_of c.args.high)
-          c.rows.left.now (drop 1 c.rows.left.now) c.cell-item.result c.in-Err.stop c.rows.invariant.walked.pages front (c.rows.invariant.rowed usable pages now later floor) tried.0,
+          c.rows.left.now (drop 1 c.rows.left.now) c.cell-item.result c.in-Err.halt c.rows.invariant.walked.pages front (c.rows.invariant.rowed usable pages now later floor) tried.0,
       tt,
     )
 

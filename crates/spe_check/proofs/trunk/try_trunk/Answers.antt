@@ -4,14 +4,14 @@ use Rattle.spe_check.specs.declared.trunk.Trunk.{Trunk}
 use Rattle.spe_check.specs.MetPages.{has_met}
 use Rattle.spe_check.specs.Trunks.{room_marks}
 use Rattle.spe_check.proofs.ShownLemmas.{broken_refuses_last}
-use Rattle.spe_check.proofs.TriesLemmas.{tries_stop}
+use Rattle.spe_check.proofs.TriesLemmas.{tries_halt}
 use Rattle.spe_check.proofs.TrunkLemmas.{trunk_last}
 use Rattle.spe_check.proofs.trunk.try_trunk.Goals as goal
 
 pub returns-in-Err-clause-tried : goal.returns-in-Err-clause-tried
 returns-in-Err-clause-tried g c = λ usable pages shows. (
-  tries_stop (Unit {0}) Trunk c.args.met.now.pages (has_met c.args.met.now) (has_met c.get_met.new.met) (has_met c.get_met.new.met)
-      (Names c.args.holder c.args.trunk ∷ []) (room_marks usable c.args.trunk (pages c.args.trunk)) c.in-Err.stop (c.in-Err.ensures.tried usable pages shows).0,
+  tries_halt (Unit {0}) Trunk c.args.met.now.pages (has_met c.args.met.now) (has_met c.get_met.new.met) (has_met c.get_met.new.met)
+      (Names c.args.holder c.args.trunk ∷ []) (room_marks usable c.args.trunk (pages c.args.trunk)) c.in-Err.halt (c.in-Err.ensures.tried usable pages shows).0,
   tt,
 )
 

@@ -1,7 +1,7 @@
 use Rattle.std.proofs.Common.{◌≡◌, ◌≢◌, ◌<◌, ◌+◌, ◌-◌, ◌∙◌, ℕ, arith, subst, sym}
 use Rattle.spe_check.specs.Trunks.{IsAmong}
-use Rattle.spe_check.proofs.TriesLemmas.{stops_same, the_ok, the_err}
-use Rattle.spe_check.proofs.TrunkLemmas.{among_next, among_stop, among_end, among_full}
+use Rattle.spe_check.proofs.TriesLemmas.{halts_same, the_ok, the_err}
+use Rattle.spe_check.proofs.TrunkLemmas.{among_next, among_halt, among_end, among_full}
 use Rattle.spe_check.proofs.ShownLemmas.{shows_before, walked_both}
 use Rattle.spe_model.specs.Walk.{Names}
 use Rattle.std.specs.Prelude.{[], ◌∷◌}
@@ -21,9 +21,9 @@ returns-in-Err-clause-tried g c = λ usable pages shows.
     let some : c.trunks.trunk ≢ 0 = grind (arith, c.trunks-test.true) in
     let none : c.trunks.most ≡ 0 = grind (arith, c.if-most-eq0.true) in
     let P : ℕ → Type 0 = λ m. IsAmong usable pages c.args.met.now c.trunks.met c.args.holder c.args.first c.trunks.free m c.trunks.at c.trunks.trunk in (
-      (among_full usable pages c.args.met.now c.trunks.met c.meet.new.self c.args.holder c.args.first c.trunks.free c.trunks.at c.trunks.trunk (the_err ℕ c.in-Err.stop) some
+      (among_full usable pages c.args.met.now c.trunks.met c.meet.new.self c.args.holder c.args.first c.trunks.free c.trunks.at c.trunks.trunk (the_err ℕ c.in-Err.halt) some
           c.trunks.invariant.walked.pages (subst P none (c.trunks.invariant.among usable pages shows))
-          (stops_same (Unit {0}) ℕ c.trunks.met.pages (has_met c.trunks.met) (has_met c.meet.new.self) (Names c.trunks.at c.trunks.trunk ∷ []) c.in-Err.stop c.in-Err.ensures.tried)).0,
+          (halts_same (Unit {0}) ℕ c.trunks.met.pages (has_met c.trunks.met) (has_met c.meet.new.self) (Names c.trunks.at c.trunks.trunk ∷ []) c.in-Err.halt c.in-Err.ensures.tried)).0,
       tt,
     )
 
@@ -32,7 +32,7 @@ returns-in-Err-try_trunk-clause-tried g c = λ usable pages shows.
     let some : c.trunks.trunk ≢ 0 = grind (arith, c.trunks-test.true) in
     let more : 0 < c.trunks.most = grind (arith, c.if-most-eq0.false) in
     let now = shows_before g.S.Pages c.trunks.space c.try_trunk.new.space usable pages c.in-Err-try_trunk.ensures.walked.reads shows in (
-      among_stop usable pages c.args.met.now c.trunks.met c.try_trunk.new.met c.args.holder c.args.first c.trunks.free c.trunks.most c.trunks.at c.trunks.trunk c.in-Err-try_trunk.stop
+      among_halt usable pages c.args.met.now c.trunks.met c.try_trunk.new.met c.args.holder c.args.first c.trunks.free c.trunks.most c.trunks.at c.trunks.trunk c.in-Err-try_trunk.halt
           some more c.trunks.invariant.walked.pages (c.trunks.invariant.among usable pages now) (c.in-Err-try_trunk.ensures.tried usable pages shows).0,
       tt,
     )

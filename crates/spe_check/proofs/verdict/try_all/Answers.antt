@@ -7,12 +7,12 @@ use Rattle.spe_check.specs.MetPages.{has_met}
 use Rattle.spe_check.specs.SchemaRows.{rows_in}
 use Rattle.spe_check.specs.Verdicts.{narrowed, tables_among}
 use Rattle.spe_check.proofs.ShownLemmas.{shows_before}
-use Rattle.spe_check.proofs.VerdictLemmas.{all_counted, all_passed, free_stop, objects_stop, schema_stop}
+use Rattle.spe_check.proofs.VerdictLemmas.{all_counted, all_passed, free_halt, objects_halt, schema_halt}
 use Rattle.spe_check.proofs.verdict.try_all.Goals as goal
 
 pub returns-in-Err-clause-tried : goal.returns-in-Err-clause-tried
 returns-in-Err-clause-tried g c = λ usable pages shows legal. (
-  schema_stop (Vec (ℕ × SchemaRow) Global) Verdict usable c.args.met.now.pages pages (has_met c.args.met.now) (has_met c.try_schema.new.met) c.in-Err.stop (c.in-Err.ensures.tried usable pages shows).0,
+  schema_halt (Vec (ℕ × SchemaRow) Global) Verdict usable c.args.met.now.pages pages (has_met c.args.met.now) (has_met c.try_schema.new.met) c.in-Err.halt (c.in-Err.ensures.tried usable pages shows).0,
   tt,
 )
 
@@ -22,7 +22,7 @@ returns-in-Err-try_objects-clause-tried g c = λ usable pages shows legal.
     let schema = c.in-Ok.ensures.tried usable pages before in
     let placed = c.as_slice.ensures.value ∙ schema.1 in
     let tried = c.in-Err-try_objects.ensures.tried usable pages shows (ap rows_in placed) in (
-      objects_stop ℕ Verdict usable pages c.args.met.now c.try_schema.new.met c.try_objects.new.met c.as_slice.result.now c.in-Err-try_objects.stop
+      objects_halt ℕ Verdict usable pages c.args.met.now c.try_schema.new.met c.try_objects.new.met c.as_slice.result.now c.in-Err-try_objects.halt
           c.in-Ok.ensures.walked.pages placed schema.0 tried.0,
       tt,
     )
@@ -51,7 +51,7 @@ returns-clause-tried g c = λ usable pages shows legal.
     let placed = c.as_slice.ensures.value ∙ schema.1 in
     let objects = c.in-Ok-try_objects.ensures.tried usable pages later (ap rows_in placed) in
     let free = c.in-Err-try_free.ensures.tried usable pages shows legal in (
-      free_stop usable pages c.args.met.now c.try_schema.new.met c.try_objects.new.met c.try_free.new.met c.as_slice.result.now c.in-Err-try_free.stop
+      free_halt usable pages c.args.met.now c.try_schema.new.met c.try_objects.new.met c.try_free.new.met c.as_slice.result.now c.in-Err-try_free.halt
           c.in-Ok.ensures.walked.pages (c.in-Ok-try_objects.ensures.walked.pages ∙ c.in-Ok.ensures.walked.pages) placed schema.0 objects.0 free.0,
       tt,
     )

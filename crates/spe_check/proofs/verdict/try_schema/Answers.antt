@@ -4,7 +4,7 @@ use Rattle.std.specs.Global.{Global}
 use Rattle.std.specs.Prelude.{Vec}
 use Rattle.spe_check.specs.MetPages.{has_met}
 use Rattle.spe_check.specs.Verdicts.{schema_tree}
-use Rattle.spe_check.proofs.TriesLemmas.{stops_same, the_ok, the_err}
+use Rattle.spe_check.proofs.TriesLemmas.{halts_same, the_ok, the_err}
 use Rattle.spe_check.proofs.VerdictLemmas.{schema_tried}
 use Rattle.spe_check.proofs.verdict.try_schema.Goals as goal
 
@@ -16,6 +16,6 @@ returns-in-Ok-clause-tried g c = λ usable pages shows.
 
 pub returns-in-Err-clause-tried : goal.returns-in-Err-clause-tried
 returns-in-Err-clause-tried g c = λ usable pages shows.
-    let found = schema_tried usable pages c.args.met.now c.walk_table.new.met c.tree_levels-levels.result c.new-rows.result.placed.items c.new-rows.result.placed.items (the_err ℕ c.in-Err.stop)
+    let found = schema_tried usable pages c.args.met.now c.walk_table.new.met c.tree_levels-levels.result c.new-rows.result.placed.items c.new-rows.result.placed.items (the_err ℕ c.in-Err.halt)
     c.tree_levels-levels.ensures c.new-rows.ensures (c.in-Err.ensures.tried usable pages shows) in
-    (stops_same ℕ (Vec (ℕ × SchemaRow) Global) c.args.met.now.pages (has_met c.args.met.now) (has_met c.walk_table.new.met) (schema_tree usable pages) c.in-Err.stop found.0, tt)
+    (halts_same ℕ (Vec (ℕ × SchemaRow) Global) c.args.met.now.pages (has_met c.args.met.now) (has_met c.walk_table.new.met) (schema_tree usable pages) c.in-Err.halt found.0, tt)

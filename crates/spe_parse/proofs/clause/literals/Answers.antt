@@ -3,9 +3,9 @@ use Rattle.std.proofs.lemmas.Grind.{common_steps}
 use Rattle.spe_model.specs.Definition.{is_sign}
 use Rattle.spe_parse.specs.Part.{parts_at, single, stands}
 use Rattle.spe_parse.specs.Number.{literal_at}
-use Rattle.spe_parse.specs.Gives.{Stops}
+use Rattle.spe_parse.specs.Read.{IsHaltOf}
 use Rattle.spe_parse.proofs.EmptyLemmas.{no_literal}
-use Rattle.spe_parse.proofs.PartLemmas.{listing_begins, listing_turns, listing_stops, single_reads, single_stops}
+use Rattle.spe_parse.proofs.PartLemmas.{listing_begins, listing_turns, listing_halts, single_reads, single_halts}
 use Rattle.spe_parse.proofs.clause.literals.Goals as goal
 
 pub literals-init : goal.literals-init
@@ -21,7 +21,7 @@ literals-preserved c =
 
 pub returns-in_err-literal : goal.returns-in_err-literal
 returns-in_err-literal c =
-    let stops : Stops c.in_err-literal.field-0.0 (parts_at (is_sign (codes ",")) (single literal_at) c.args.left.now) =
-    listing_stops (is_sign (codes ",")) (single literal_at) c.literals.found.items c.literals.left _ c.in_err-literal.field-0.0 no_literal c.literals.invariant
-    (single_stops literal_at c.literals.found.items c.literals.left c.in_err-literal.field-0.0 c.in_err-literal.ensures.literal) in
-    search (rules, stops)
+    let halts : IsHaltOf c.in_err-literal.field-0.0 (parts_at (is_sign (codes ",")) (single literal_at) c.args.left.now) =
+    listing_halts (is_sign (codes ",")) (single literal_at) c.literals.found.items c.literals.left _ c.in_err-literal.field-0.0 no_literal c.literals.invariant
+    (single_halts literal_at c.literals.found.items c.literals.left c.in_err-literal.field-0.0 c.in_err-literal.ensures.literal) in
+    search (rules, halts)

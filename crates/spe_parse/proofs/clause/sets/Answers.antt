@@ -3,9 +3,9 @@ use Rattle.std.proofs.lemmas.Grind.{common_steps}
 use Rattle.spe_model.specs.Definition.{is_sign}
 use Rattle.spe_parse.specs.Part.{parts_at, single, stands}
 use Rattle.spe_parse.specs.Clause.{set_at}
-use Rattle.spe_parse.specs.Gives.{Stops}
+use Rattle.spe_parse.specs.Read.{IsHaltOf}
 use Rattle.spe_parse.proofs.EmptyLemmas.{no_set}
-use Rattle.spe_parse.proofs.PartLemmas.{listing_begins, listing_turns, listing_stops, single_reads, single_stops}
+use Rattle.spe_parse.proofs.PartLemmas.{listing_begins, listing_turns, listing_halts, single_reads, single_halts}
 use Rattle.spe_parse.proofs.clause.sets.Goals as goal
 
 pub sets-init : goal.sets-init
@@ -21,7 +21,7 @@ sets-preserved c =
 
 pub returns-in_err-set : goal.returns-in_err-set
 returns-in_err-set c =
-    let stops : Stops c.in_err-set.field-0.0 (parts_at (is_sign (codes ",")) (single set_at) c.args.left.now) =
-    listing_stops (is_sign (codes ",")) (single set_at) c.sets.found.items c.sets.left _ c.in_err-set.field-0.0 no_set c.sets.invariant
-    (single_stops set_at c.sets.found.items c.sets.left c.in_err-set.field-0.0 c.in_err-set.ensures.set) in
-    search (rules, stops)
+    let halts : IsHaltOf c.in_err-set.field-0.0 (parts_at (is_sign (codes ",")) (single set_at) c.args.left.now) =
+    listing_halts (is_sign (codes ",")) (single set_at) c.sets.found.items c.sets.left _ c.in_err-set.field-0.0 no_set c.sets.invariant
+    (single_halts set_at c.sets.found.items c.sets.left c.in_err-set.field-0.0 c.in_err-set.ensures.set) in
+    search (rules, halts)

@@ -1,5 +1,5 @@
 use Rattle.std.proofs.Common.{◌≡◌, ◌≤◌, ◌-◌, length, true}
-use Rattle.spe_recover.specs.Told.{WhereTold}
+use Rattle.spe_recover.specs.Told.{IfTold}
 use Rattle.spe_recover.proofs.HeadLemmas.{AreFirst}
 use Rattle.spe_recover.proofs.heads.read_heads.Given as goal
 
@@ -11,7 +11,7 @@ invariant-loop-id g l = record {
   later : g.D.Disk.read_faults l.fn.disk ≤ g.D.Disk.read_faults l.disk;
   few : l.id ≤ 16;
   long : length l.heads ≡ 16;
-  known : WhereTold (g.D.Disk.told l.fn.disk) (AreFirst l.page_size l.id l.heads);
+  known : IfTold (g.D.Disk.told l.fn.disk) (AreFirst l.page_size l.id l.heads);
 }
 
 abbrev pub decreases-loop-id : goal.decreases-loop-id

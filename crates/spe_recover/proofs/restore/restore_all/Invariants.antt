@@ -1,6 +1,6 @@
 use Rattle.std.proofs.Common.{◌≡◌, ◌≤◌, ◌+◌, ◌*◌, ◌-◌, ◌^◌, length, true}
 use Rattle.spe_recover.specs.Restored.{Stays}
-use Rattle.spe_recover.specs.Told.{WhereTold}
+use Rattle.spe_recover.specs.Told.{IfTold}
 use Rattle.spe_recover.proofs.LeftLemmas.{HasJournalsLeft}
 use Rattle.spe_recover.proofs.TurnLemmas.{AreDue}
 use Rattle.spe_recover.proofs.restore.restore_all.Given as goal
@@ -14,8 +14,8 @@ invariant-loop-id g l = record {
   number : l.id ≤ 16;
   few : l.made * 520 ≤ l.id * 2 ^ 64;
   stays : Stays (g.D.Disk.told l.fn.disk) (g.D.Disk.told l.disk);
-  restored : WhereTold (g.D.Disk.told l.fn.disk) (AreDue l.page_size l.pages l.id (g.D.Disk.told l.fn.disk) (g.D.Disk.told l.disk) l.fn.holders l.holders l.made);
-  begun : WhereTold (g.D.Disk.told l.fn.disk) (HasJournalsLeft l.page_size l.pages l.id (g.D.Disk.told l.fn.disk) (g.D.Disk.told l.disk) l.fn.holders l.holders);
+  restored : IfTold (g.D.Disk.told l.fn.disk) (AreDue l.page_size l.pages l.id (g.D.Disk.told l.fn.disk) (g.D.Disk.told l.disk) l.fn.holders l.holders l.made);
+  begun : IfTold (g.D.Disk.told l.fn.disk) (HasJournalsLeft l.page_size l.pages l.id (g.D.Disk.told l.fn.disk) (g.D.Disk.told l.disk) l.fn.holders l.holders);
 }
 
 abbrev pub decreases-loop-id : goal.decreases-loop-id

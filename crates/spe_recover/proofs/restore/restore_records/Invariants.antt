@@ -1,6 +1,6 @@
 use Rattle.std.proofs.Common.{◌≡◌, ◌≤◌, ◌+◌, ◌*◌, ◌-◌, ◌^◌, length, true}
 use Rattle.spe_recover.specs.Restored.{Stays}
-use Rattle.spe_recover.specs.Told.{WhereTold}
+use Rattle.spe_recover.specs.Told.{IfTold}
 use Rattle.spe_recover.proofs.LeftLemmas.{HasRecordsLeft}
 use Rattle.spe_recover.proofs.TurnLemmas.{IsDue}
 use Rattle.spe_recover.proofs.restore.restore_records.Given as goal
@@ -16,8 +16,8 @@ invariant-loop-left g l = record {
   reach : l.at + l.left ≡ 512 + (l.end - 512);
   few : l.made * 520 + l.left ≤ 2 ^ 64;
   stays : Stays (g.D.Disk.told l.fn.disk) (g.D.Disk.told l.disk);
-  restored : WhereTold (g.D.Disk.told l.fn.disk) (IsDue l.id l.nonce l.page_size l.pages l.at (g.D.Disk.told l.fn.disk) (g.D.Disk.told l.disk) l.fn.holders l.holders l.made);
-  begun : WhereTold (g.D.Disk.told l.fn.disk) (HasRecordsLeft l.id l.nonce l.page_size l.pages l.at (g.D.Disk.told l.fn.disk) (g.D.Disk.told l.disk) l.fn.holders l.holders);
+  restored : IfTold (g.D.Disk.told l.fn.disk) (IsDue l.id l.nonce l.page_size l.pages l.at (g.D.Disk.told l.fn.disk) (g.D.Disk.told l.disk) l.fn.holders l.holders l.made);
+  begun : IfTold (g.D.Disk.told l.fn.disk) (HasRecordsLeft l.id l.nonce l.page_size l.pages l.at (g.D.Disk.told l.fn.disk) (g.D.Disk.told l.disk) l.fn.holders l.holders);
 }
 
 abbrev pub decreases-loop-left : goal.decreases-loop-left

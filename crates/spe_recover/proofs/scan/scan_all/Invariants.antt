@@ -1,5 +1,5 @@
 use Rattle.std.proofs.Common.{◌≡◌, ◌≤◌, ◌+◌, ◌-◌, length, true}
-use Rattle.spe_recover.specs.Told.{WhereTold}
+use Rattle.spe_recover.specs.Told.{IfTold}
 use Rattle.spe_recover.proofs.ScanLemmas.{AreLeft}
 use Rattle.spe_recover.proofs.scan.scan_all.Given as goal
 
@@ -11,7 +11,7 @@ invariant-loop-id g l = record {
   later : g.D.Disk.read_faults l.fn.disk ≤ g.D.Disk.read_faults l.disk;
   few : l.id ≤ 16;
   page : length l.buf ≡ l.page_size + 8;
-  kept : WhereTold (g.D.Disk.told l.fn.disk) (AreLeft l.page_size l.id l.fn.seen l.seen);
+  kept : IfTold (g.D.Disk.told l.fn.disk) (AreLeft l.page_size l.id l.fn.seen l.seen);
 }
 
 abbrev pub decreases-loop-id : goal.decreases-loop-id

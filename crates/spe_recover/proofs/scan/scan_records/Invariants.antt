@@ -1,5 +1,5 @@
 use Rattle.std.proofs.Common.{◌≡◌, ◌≤◌, ◌+◌, ◌-◌, length, true}
-use Rattle.spe_recover.specs.Told.{WhereTold}
+use Rattle.spe_recover.specs.Told.{IfTold}
 use Rattle.spe_recover.proofs.ScanLemmas.{IsLeft}
 use Rattle.spe_recover.proofs.scan.scan_records.Given as goal
 
@@ -13,7 +13,7 @@ invariant-loop-left g l = record {
   page : length l.buf ≡ l.page_size + 8;
   from : 512 ≤ l.at;
   reach : l.at + l.left ≡ 512 + (l.end - 512);
-  kept : WhereTold (g.D.Disk.told l.fn.disk) (IsLeft l.id l.nonce l.page_size l.at l.fn.seen l.seen);
+  kept : IfTold (g.D.Disk.told l.fn.disk) (IsLeft l.id l.nonce l.page_size l.at l.fn.seen l.seen);
 }
 
 abbrev pub decreases-loop-left : goal.decreases-loop-left

@@ -2,7 +2,7 @@ use Rattle.std.proofs.Common.{◌++◌, ap}
 use Rattle.spe_render.specs.Values.{line}
 use Rattle.std.specs.Prelude.{codes}
 use Rattle.spe_render.specs.Outcomes.{numbered, transactions_text}
-use Rattle.spe_render.proofs.GivesLemmas.{printed, then}
+use Rattle.spe_render.proofs.PassesLemmas.{printed, then}
 use Rattle.spe_render.proofs.outcomes.put_client.Goals as goal
 
 pub returns : goal.returns

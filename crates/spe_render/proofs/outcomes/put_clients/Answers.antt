@@ -1,6 +1,6 @@
 use Rattle.std.proofs.Common.{refl}
 use Rattle.spe_render.specs.Outcomes.{clients_text, client_text}
-use Rattle.spe_render.proofs.GivesLemmas.{numbered_turn}
+use Rattle.spe_render.proofs.PassesLemmas.{numbered_turn}
 use Rattle.spe_render.proofs.outcomes.put_clients.Goals as goal
 
 pub loop-left-preserved : goal.loop-left-preserved

@@ -1,6 +1,6 @@
 use Rattle.std.proofs.Common.{ap, sym}
 use Rattle.spe_render.specs.Outcomes.{ending_text}
-use Rattle.spe_render.proofs.GivesLemmas.{printed, then}
+use Rattle.spe_render.proofs.PassesLemmas.{printed, then}
 use Rattle.spe_render.proofs.outcomes.put_ending.Goals as goal
 
 pub returns-in-Busy : goal.returns-in-Busy

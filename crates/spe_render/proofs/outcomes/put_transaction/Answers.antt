@@ -1,7 +1,7 @@
 use Rattle.std.proofs.Common.{◌++◌, ap}
 use Rattle.spe_render.specs.Outcomes.{outcome_text}
 use Rattle.spe_render.specs.Replies.{replies_text}
-use Rattle.spe_render.proofs.GivesLemmas.{printed, then}
+use Rattle.spe_render.proofs.PassesLemmas.{printed, then}
 use Rattle.spe_render.proofs.outcomes.put_transaction.Goals as goal
 
 pub returns : goal.returns

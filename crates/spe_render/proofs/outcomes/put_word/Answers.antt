@@ -1,6 +1,6 @@
 use Rattle.std.proofs.Common.{◌∙◌, ◌++◌, ap, codes}
 use Rattle.spe_render.specs.Outcomes.{without_zeros}
-use Rattle.spe_render.proofs.GivesLemmas.{printed, then}
+use Rattle.spe_render.proofs.PassesLemmas.{printed, then}
 use Rattle.spe_render.proofs.outcomes.put_word.Goals as goal
 
 pub returns : goal.returns

@@ -1,6 +1,6 @@
 use Rattle.std.proofs.Common.{refl}
 use Rattle.spe_render.specs.Replies.{all_shown, shown_text}
-use Rattle.spe_render.proofs.GivesLemmas.{turn}
+use Rattle.spe_render.proofs.PassesLemmas.{turn}
 use Rattle.spe_render.proofs.replies.put_all_shown.Goals as goal
 
 pub loop-left-preserved : goal.loop-left-preserved

@@ -1,4 +1,4 @@
-use Rattle.spe_render.proofs.GivesLemmas.{then}
+use Rattle.spe_render.proofs.PassesLemmas.{then}
 use Rattle.spe_render.proofs.replies.put_count.Goals as goal
 
 pub returns : goal.returns

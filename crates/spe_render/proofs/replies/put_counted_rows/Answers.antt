@@ -1,6 +1,6 @@
 use Rattle.std.proofs.Common.{ap}
 use Rattle.spe_render.specs.Replies.{rows_reply}
-use Rattle.spe_render.proofs.GivesLemmas.{printed, then}
+use Rattle.spe_render.proofs.PassesLemmas.{printed, then}
 use Rattle.spe_render.proofs.replies.put_counted_rows.Goals as goal
 
 pub returns : goal.returns

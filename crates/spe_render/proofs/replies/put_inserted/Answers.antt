@@ -1,6 +1,6 @@
 use Rattle.std.proofs.Common.{◌≡◌, ap, arith, of_z, to_z, to_z-of_z, w64}
 use Rattle.spe_render.specs.Replies.{inserted_reply}
-use Rattle.spe_render.proofs.GivesLemmas.{printed, then}
+use Rattle.spe_render.proofs.PassesLemmas.{printed, then}
 use Rattle.spe_render.proofs.replies.put_inserted.Goals as goal
 
 pub returns : goal.returns

@@ -1,6 +1,6 @@
 use Rattle.std.proofs.Common.{refl}
 use Rattle.spe_render.specs.Replies.{replies_text, reply_text}
-use Rattle.spe_render.proofs.GivesLemmas.{turn}
+use Rattle.spe_render.proofs.PassesLemmas.{turn}
 use Rattle.spe_render.proofs.replies.put_replies.Goals as goal
 
 pub loop-left-preserved : goal.loop-left-preserved

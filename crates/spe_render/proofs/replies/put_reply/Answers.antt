@@ -1,6 +1,6 @@
 use Rattle.std.proofs.Common.{◌≡◌, ◌∙◌, ap, arith, of_z, sym, to_z, to_z-of_z, w64}
 use Rattle.spe_render.specs.Replies.{inserted_reply, reply_text}
-use Rattle.spe_render.proofs.GivesLemmas.{printed}
+use Rattle.spe_render.proofs.PassesLemmas.{printed}
 use Rattle.spe_render.proofs.replies.put_reply.Goals as goal
 
 pub returns-in-Inserted : goal.returns-in-Inserted

@@ -1,6 +1,6 @@
 use Rattle.std.proofs.Common.{◌++◌, ◌∷◌, [], ap, codes}
 use Rattle.spe_render.specs.Values.{joined}
-use Rattle.spe_render.proofs.GivesLemmas.{printed, then}
+use Rattle.spe_render.proofs.PassesLemmas.{printed, then}
 use Rattle.spe_render.proofs.replies.put_shown.Goals as goal
 
 pub returns : goal.returns

@@ -1,4 +1,4 @@
-use Rattle.spe_render.proofs.GivesLemmas.{then}
+use Rattle.spe_render.proofs.PassesLemmas.{then}
 use Rattle.spe_render.proofs.tables.put_table.Goals as goal
 
 pub returns : goal.returns

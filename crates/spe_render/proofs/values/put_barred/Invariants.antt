@@ -1,11 +1,11 @@
 use Rattle.std.proofs.Common.{length}
 use Rattle.spe_render.specs.Values.{barred}
-use Rattle.spe_render.specs.Gives.{GivesFront}
+use Rattle.spe_render.specs.Passes.{PassesFront}
 use Rattle.spe_render.proofs.values.put_barred.Given as goal
 
 abbrev pub invariant-loop-left : goal.invariant-loop-left
 invariant-loop-left g l =
-    GivesFront (g.W.Sink.taken l.fn.sink) (g.W.Sink.taken l.sink) (g.W.Sink.faults l.fn.sink) (g.W.Sink.faults l.sink) l.fn.out l.out
+    PassesFront (g.W.Sink.taken l.fn.sink) (g.W.Sink.taken l.sink) (g.W.Sink.faults l.fn.sink) (g.W.Sink.faults l.sink) l.fn.out l.out
     (barred l.fn.values) (barred l.left)
 
 abbrev pub decreases-loop-left : goal.decreases-loop-left

@@ -1,6 +1,6 @@
 use Rattle.std.proofs.Common.{◌∷◌, [], refl}
 use Rattle.hex.specs.Hex.{encode_lower}
-use Rattle.spe_render.proofs.GivesLemmas.{finished, turn}
+use Rattle.spe_render.proofs.PassesLemmas.{finished, turn}
 use Rattle.spe_render.proofs.TextLemmas.{encode_cons, encode_nil}
 use Rattle.spe_render.proofs.values.put_hex.Goals as goal
 

@@ -1,6 +1,6 @@
 use Rattle.std.proofs.Common.{ap, sym}
 use Rattle.spe_render.specs.Values.{joined}
-use Rattle.spe_render.proofs.GivesLemmas.{first_and_rest, printed, then}
+use Rattle.spe_render.proofs.PassesLemmas.{first_and_rest, printed, then}
 use Rattle.spe_render.proofs.values.put_joined.Goals as goal
 
 pub returns-in-len1-up : goal.returns-in-len1-up

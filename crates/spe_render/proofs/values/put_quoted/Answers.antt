@@ -1,6 +1,6 @@
 use Rattle.std.proofs.Common.{refl}
 use Rattle.spe_render.specs.Values.{quoted, quoted_byte}
-use Rattle.spe_render.proofs.GivesLemmas.{turn}
+use Rattle.spe_render.proofs.PassesLemmas.{turn}
 use Rattle.spe_render.proofs.values.put_quoted.Goals as goal
 
 pub loop-left-preserved : goal.loop-left-preserved

@@ -1,7 +1,7 @@
 use Rattle.std.proofs.Common.{◌≡◌, ◌∙◌, ◌∷◌, ◌++◌, [], ap, arith, of_z, to_z, to_z-of_z, w64}
 use Rattle.std.specs.Fmt.{signed_decimal}
 use Rattle.spe_render.specs.Values.{barred}
-use Rattle.spe_render.proofs.GivesLemmas.{printed, then}
+use Rattle.spe_render.proofs.PassesLemmas.{printed, then}
 use Rattle.spe_render.proofs.values.put_row.Goals as goal
 
 pub returns : goal.returns

@@ -1,6 +1,6 @@
 use Rattle.std.proofs.Common.{refl}
 use Rattle.spe_render.specs.Values.{rows_text, row_text}
-use Rattle.spe_render.proofs.GivesLemmas.{turn}
+use Rattle.spe_render.proofs.PassesLemmas.{turn}
 use Rattle.spe_render.proofs.values.put_rows.Goals as goal
 
 pub loop-left-preserved : goal.loop-left-preserved

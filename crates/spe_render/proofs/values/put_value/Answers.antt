@@ -1,7 +1,7 @@
 use Rattle.std.proofs.Common.{◌∙◌, ◌∷◌, ◌++◌, [], ap, sym}
 use Rattle.spe_render.specs.Values.{quoted, value_text}
 use Rattle.hex.specs.Hex.{encode_lower}
-use Rattle.spe_render.proofs.GivesLemmas.{printed, then}
+use Rattle.spe_render.proofs.PassesLemmas.{printed, then}
 use Rattle.spe_render.proofs.values.put_value.Goals as goal
 
 pub returns-in-Text : goal.returns-in-Text

@@ -1,6 +1,8 @@
-use Rattle.std.proofs.Common.{◌≡◌, ℕ, Bool, ◌&&◌, ◌∙◌, leb, sym, ap, arith, inl, refl}
+use Rattle.std.proofs.Common.{◌≡◌, ℕ, Bool, ◌&&◌, ◌∙◌, leb, map, sym, ap, arith, inl, refl}
 use Rattle.spe_model.specs.Tree.{rank}
 use Rattle.spe_format.specs.View.{cell_seen}
+use Rattle.spe_search.specs.Pairs.{pair_seen}
+use Rattle.spe_search.proofs.LeavesLemmas.{joins_row}
 use Rattle.spe_search.proofs.PlaceLemmas.{hole_there}
 use Rattle.spe_search.proofs.RangeLemmas.{pushed_skip, pushed_more, pushed_fault, damage_row, adds_row_more}
 use Rattle.spe_search.proofs.MissLemmas.{misses_rows}
@@ -19,7 +21,7 @@ returns-in_default-clause-damage g c = λ pages agrees.
 pub returns-in-Err-clause-rows : goal.returns-in-Err-clause-rows
 returns-in-Err-clause-rows g c =
     pushed_fault (Unit {0}) (Unit {0}) g.S.Pages c.args.space.now c.loop-index.space c.push_row.new.space c.args.view.now.cells c.args.low c.args.high c.loop-index.index (cell_seen c.in-Some.parts) c.in-Err.fault
-    c.args.out.now c.loop-index.out c.push_row.new.out c.push_row.new.out c.loop-index.invariant.kept c.in-Some.ensures (omega (arith, c.loop-index-test.true, c.count-count.ensures)) c.in-Err.ensures.rows
+    (map pair_seen c.args.out.now) (map pair_seen c.loop-index.out) (map pair_seen c.push_row.new.out) (map pair_seen c.push_row.new.out) c.loop-index.invariant.kept c.in-Some.ensures (omega (arith, c.loop-index-test.true, c.count-count.ensures)) c.in-Err.ensures.rows
 
 pub returns-in-Err-clause-damage : goal.returns-in-Err-clause-damage
 returns-in-Err-clause-damage g c =
@@ -54,10 +56,12 @@ loop-index-preserved g c =
         refusal = w.in-Ok.ensures.refusal ∙ c.loop-index.invariant.refusal;
         buf = omega (arith, w.push_row.auto.buf, c.loop-index.invariant.buf);
         pushed = pushed_more (Unit {0}) tt g.S.Pages c.args.space.now c.loop-index.space w.push_row.new.space c.args.view.now.cells c.args.low c.args.high c.loop-index.index cell
-            c.args.out.now c.loop-index.out w.push_row.new.out c.loop-index.invariant.kept w.in-Ok.ensures.kept c.loop-index.invariant.pushed c.in-Some.ensures
+            (map pair_seen c.args.out.now) (map pair_seen c.loop-index.out) (map pair_seen w.push_row.new.out) c.loop-index.invariant.kept w.in-Ok.ensures.kept c.loop-index.invariant.pushed c.in-Some.ensures
             (omega (arith, c.loop-index-test.true, c.count-count.ensures)) (sym same ∙ w.if-is_within.true) w.in-Ok.ensures.rows;
         adds = adds_row_more g.S.Pages c.args.space.now c.loop-index.space w.push_row.new.space c.args.view.now.cells c.args.low c.args.high c.loop-index.index cell
             c.loop-index.invariant.kept w.in-Ok.ensures.kept c.in-Some.ensures (sym same ∙ w.if-is_within.true) c.loop-index.invariant.adds w.in-Ok.ensures.adds;
+        leaf = joins_row g.S.Pages c.args.space.now c.loop-index.space w.push_row.new.space c.args.page c.args.view.now.cells c.loop-index.index cell
+            c.args.out.now c.loop-index.out w.push_row.new.out c.loop-index.invariant.kept w.in-Ok.ensures.kept c.in-Some.ensures c.loop-index.invariant.leaf w.in-Ok.ensures.leaf;
       })
       | else-is_within w ↦ rw (w.space-is, w.buf-is, w.out-is) (record {
         within = omega (arith, c.loop-index-test.true);
@@ -65,7 +69,8 @@ loop-index-preserved g c =
         refusal = c.loop-index.invariant.refusal;
         buf = c.loop-index.invariant.buf;
         pushed = pushed_skip g.S.Pages c.args.space.now c.loop-index.space c.args.view.now.cells c.args.low c.args.high c.loop-index.index cell
-            c.args.out.now c.loop-index.out c.loop-index.invariant.pushed c.in-Some.ensures (omega (arith, c.loop-index-test.true, c.count-count.ensures)) (sym same ∙ w.if-is_within.false);
+            (map pair_seen c.args.out.now) (map pair_seen c.loop-index.out) c.loop-index.invariant.pushed c.in-Some.ensures (omega (arith, c.loop-index-test.true, c.count-count.ensures)) (sym same ∙ w.if-is_within.false);
         adds = c.loop-index.invariant.adds;
+        leaf = c.loop-index.invariant.leaf;
       })
     ]

@@ -1,9 +1,11 @@
-use Rattle.std.proofs.Common.{◌≡◌}
+use Rattle.std.proofs.Common.{◌≡◌, List}
+use Rattle.spe_model.specs.declared.catalog.Entry.{Entry}
 use Rattle.spe_model.specs.Rows.{table_named}
 use Rattle.spe_space.specs.Calls.{sight}
 use Rattle.spe_serve.specs.Answer.{reply_of_table}
 use Rattle.spe_serve.specs.Space.{entry_named}
-use Rattle.spe_serve.proofs.AskedLemmas.{catalog_asks, named_inside}
+use Rattle.spe_serve.proofs.AskedLemmas.{named_inside}
+use Rattle.spe_serve.proofs.DamageLemmas.{catalog_damage, entry_damage}
 use Rattle.spe_serve.proofs.TableLemmas.{named_reply, never_bad, table_found, unnamed_reply}
 use Rattle.spe_serve.proofs.table.table_reply.Goals as goal
 
@@ -29,7 +31,15 @@ returns-clause-reply g c = λ pages agrees count db small stands.
     (table_found usable count shown c.in-Ok.catalog db c.args.name.now stands (c.in-Ok.ensures.found pages agrees stands.height stands.schema)) c.in-None.ensures
 
 pub returns-in-Err-clause-asks : goal.returns-in-Err-clause-asks
-returns-in-Err-clause-asks g c = catalog_asks g.S.Pages c.args.space.now c.read_catalog.new.space c.in-Err.fault c.in-Err.ensures.page_out
+returns-in-Err-clause-asks g c = c.in-Err.ensures.inside
+
+pub returns-in-Err-clause-damage : goal.returns-in-Err-clause-damage
+returns-in-Err-clause-damage g c = catalog_damage (List Entry) g.S.Pages c.args.space.now c.read_catalog.new.space c.args.name.now c.in-Err.fault c.in-Err.ensures.damage
+
+pub returns-in-Some-clause-damage : goal.returns-in-Some-clause-damage
+returns-in-Some-clause-damage g c =
+    entry_damage g.S.Pages c.args.space.now c.read_catalog.new.space c.entry_reply.new.space c.args.name.now c.in-Ok.catalog c.in-Some.entry.now c.entry_reply.result
+    c.in-Ok.ensures.kept c.in-Some.ensures c.entry_reply.ensures.damage
 
 pub returns-in-Some-clause-asks : goal.returns-in-Some-clause-asks
 returns-in-Some-clause-asks g c = λ pages agrees count db stands.

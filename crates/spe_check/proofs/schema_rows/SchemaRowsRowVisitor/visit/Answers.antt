@@ -4,18 +4,18 @@ use Rattle.spe_model.specs.Record.{record_of}
 use Rattle.spe_model.specs.Schema.{schema_row, schema_row_of}
 use Rattle.spe_model.specs.Verdict.{fits, is_right_row}
 use Rattle.spe_model.specs.Walk.{Keeps}
-use Rattle.spe_check.specs.declared.stop.Stop.TheVariants.{Broken}
+use Rattle.spe_check.specs.declared.halt.Halt.TheVariants.{Broken}
 use Rattle.spe_check.specs.SchemaRows.{placed_of, rows_in}
 use Rattle.spe_check.specs.Tries.{Tries}
 use Rattle.spe_check.proofs.RowLemmas.{floor_next, free_is, on_ok, outlook_next, row_read}
-use Rattle.spe_check.proofs.TriesLemmas.{keeps_breaks, tries_stop, tries_then, the_err}
+use Rattle.spe_check.proofs.TriesLemmas.{keeps_breaks, tries_halt, tries_then, the_err}
 use Rattle.spe_check.proofs.schema_rows.SchemaRowsRowVisitor.visit.Goals as goal
 
 pub returns-in-Err-clause-tried : goal.returns-in-Err-clause-tried
 returns-in-Err-clause-tried c = λ count met later low.
     let rows = rows_in (c.args.self.now.placed.items ++ placed_of ((c.args.leaf, c.args.rowid, c.args.payload.now) ∷ later)) in
-    tries_stop (List Value) (Unit {0}) count met met met (Keeps c.args.leaf 8 (fits 5 (record_of c.args.payload.now)) ∷ [])
-    (Keeps c.args.leaf 9 (is_right_row rows (schema_row_of (c.args.rowid, c.args.payload.now))) ∷ []) c.in-Err.stop (c.in-Err.ensures.tried count met)
+    tries_halt (List Value) (Unit {0}) count met met met (Keeps c.args.leaf 8 (fits 5 (record_of c.args.payload.now)) ∷ [])
+    (Keeps c.args.leaf 9 (is_right_row rows (schema_row_of (c.args.rowid, c.args.payload.now))) ∷ []) c.in-Err.halt (c.in-Err.ensures.tried count met)
 
 pub returns-in-Some-clause-tried : goal.returns-in-Some-clause-tried
 returns-in-Some-clause-tried c = λ count met later low.

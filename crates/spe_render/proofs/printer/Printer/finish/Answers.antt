@@ -1,5 +1,5 @@
 use Rattle.std.proofs.Common.{rules}
-use Rattle.spe_render.proofs.GivesLemmas.{ended_ok, ended_err}
+use Rattle.spe_render.proofs.PassesLemmas.{ended_ok, ended_err}
 use Rattle.spe_render.proofs.printer.Printer.finish.Goals as goal
 
 pub returns-then-self : goal.returns-then-self

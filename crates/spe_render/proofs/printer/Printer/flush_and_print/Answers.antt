@@ -1,5 +1,5 @@
 use Rattle.std.proofs.Common.{refl}
-use Rattle.spe_render.proofs.GivesLemmas.{then}
+use Rattle.spe_render.proofs.PassesLemmas.{then}
 use Rattle.spe_render.proofs.printer.Printer.flush_and_print.Goals as goal
 
 pub returns-then-keep : goal.returns-then-keep
