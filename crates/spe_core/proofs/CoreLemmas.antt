@@ -18,6 +18,7 @@ use Rattle.spe_core.specs.Parts.{IsPaged, IsReady, state_of}
 use Rattle.spe_core.specs.Serial.{IsSerial, after_events, next}
 use Rattle.spe_core.specs.Sheets.{sheet_at, pages_at}
 use Rattle.spe_core.specs.Sound.{IsSound, now_laid}
+use Rattle.spe_core.proofs.SoundSteps.{count_is}
 use Rattle.spe_core.specs.State.{Committed, Live, State, live_of}
 use Rattle.spe_core.proofs.Sound.{sound_after, sound_next, sound_serial}
 use Rattle.spe_core.proofs.SoundLaid.{counted_of, laid_all, laid_next, laid_same, paging_of}
@@ -28,10 +29,6 @@ paged_of : (s : State) → IsSound s → IsPaged s.content
 paged_of s sound =
     let r = readable s.content (parts_of s.content (now_laid s) sound.recovers).front in
     record { front = r.long; low = r.low; high = r.high }
-
-count_is : (s : State) → IsSound s → count_of s ≡ length (now_laid s)
-unfolding pages_of
-count_is s sound = rw sound.recovers refl
 
 -- a state with the same commits has as many pages
 count_same : (s other : State) → IsSound s → IsSound other → other.opening ≡ s.opening → other.commits ≡ s.commits → count_of s ≡ count_of other

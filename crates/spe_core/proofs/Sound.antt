@@ -1,5 +1,5 @@
 -- A core is sound after any events, and a sound core is serial.
-use Rattle.std.proofs.Common.{◌≡◌, ℕ, zero, suc, ◌+◌, ◌<◌, ◌≤◌, List, [], ◌∷◌, length, refl, arith, Bool, true, false, ⊎_elim}
+use Rattle.std.proofs.Common.{◌≡◌, ℕ, zero, suc, ◌+◌, ◌<◌, ◌≤◌, List, [], ◌∷◌, length, refl, ◌∙◌, arith, Bool, true, false, ⊎_elim}
 use Rattle.std.specs.Prelude.{◌&&◌, nat_lt, filter}
 use Rattle.std.proofs.lemmas.Bool.{and_parts, cases_Bool, false_from_ne_true, ltb-true}
 use Rattle.spe_model.specs.Content.{Content}
@@ -15,13 +15,14 @@ use Rattle.spe_core.specs.Changed.{changed_at}
 use Rattle.spe_core.specs.Enabled.{enabled, enabled_at, have_all_ended, is_serving}
 use Rattle.spe_core.specs.Opening.{IsOpening, opened}
 use Rattle.spe_core.specs.Serial.{IsSerial, after_events, next}
-use Rattle.spe_core.specs.Sound.{IsSound, now_laid}
+use Rattle.spe_core.specs.Sound.{IsSound, now_laid, written_of}
 use Rattle.spe_core.specs.State.{State}
-use Rattle.spe_core.proofs.SoundBytes.{sound_undo_bytes, sound_write_bytes}
 use Rattle.spe_core.proofs.SoundEnds.{sound_commit_cut, sound_roll_cut}
-use Rattle.spe_core.proofs.SoundEvents.{at_rest, sound_begin, sound_journal, sound_open_journal, sound_read}
+use Rattle.spe_core.proofs.SoundEvents.{at_rest, sound_begin, sound_journal, sound_open_journal, sound_read, sound_undo_bytes, sound_write_bytes}
 use Rattle.spe_core.proofs.SoundOpened.{opened_sound}
 use Rattle.spe_core.proofs.SoundState.{IsAtWork, unended}
+use Rattle.spe_core.proofs.SoundSteps.{none_lists}
+use Rattle.spe_core.proofs.SoundWorks.{going_has}
 use Rattle.spe_core.proofs.SoundStops.{sound_recover_op, sound_stop}
 
 pub sound_opened : (bytes : List ℕ) (slots : ℕ) → IsOpening bytes → IsSound (opened bytes slots)
@@ -82,6 +83,10 @@ sound_serial s sound = record {
   apart = held_once s.content (now_laid s) sound.recovers;
   working = λ id t its going.
       let work : IsAtWork s id t = unended s id t sound its going in
-      record { reads = work.files.seen; written = λ p bytes found. (work.files.written p bytes found).0; others = work.files.kept };
-  resting = λ serving all. (at_rest s sound serving all).whole;
+      record {
+        reads = work.all.seen id t work.goes;
+        written = λ p bytes found. (work.all.work.in_file id p bytes (going_has written_of s.live id t p work.goes ∙ found)).0;
+        others = λ p bytes found lacks. work.all.work.kept p bytes found (none_lists s id t sound work written_of p lacks);
+      };
+  resting = at_rest s sound;
 }

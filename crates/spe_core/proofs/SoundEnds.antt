@@ -1,50 +1,90 @@
 -- A transaction that commits, or ends with nothing written, keeps a core sound.
 use Rattle.std.proofs.Common.{◌≡◌, ℕ, zero, suc, ◌<◌, List, [], ◌∷◌, ◌++◌, length, refl, sym, ap, ◌∙◌, arith, subst, true, false, Option, Some, ⊎_elim, inl, inr}
 use Rattle.std.specs.Prelude.{◌⊎◌, not, is_some, slice_get}
-use Rattle.std.proofs.lemmas.Bool.{false_from_ne_true, not-true}
-use Rattle.spe_model.specs.Paging.{lay}
+use Rattle.std.specs.Ordering.{nat_cmp}
+use Rattle.std.specs.BTreeMap.{insert_entry}
+use Rattle.std.proofs.Math.Path.{fun_ext}
+use Rattle.std.proofs.lemmas.Bool.{cases_Bool, not-true}
+use Rattle.spe_model.specs.Content.{Content}
 use Rattle.spe_model.specs.Covered.{Recovers}
-use Rattle.spe_model.specs.Recovery.{file_page}
+use Rattle.spe_model.specs.Header.{is_size_valid}
+use Rattle.spe_model.specs.Paging.{PageMap}
+use Rattle.spe_model.specs.Recovery.{file_page_size, journal_of}
+use Rattle.spe_model.specs.Rollback.{has_length}
+use Rattle.spe_model.specs.Settled.{header_in}
 use Rattle.spe_model.specs.Trace.{after}
+use Rattle.spe_transactions.specs.Pages.{MayCommit, laid_pages}
+use Rattle.spe_transactions.specs.Steps.{EndsBare, IsUndone}
+use Rattle.spe_transactions.specs.Work.{AtWork, Works, has_page, without_id}
+use Rattle.spe_transactions.proofs.CutWorkLemmas.{bare_ends, commit_works, drop_works}
 use Rattle.spe_core.specs.Changed.{committed, cuts_of, ended, update_live, updated, with_commit, with_live, with_made}
 use Rattle.spe_core.specs.Enabled.{has_changed, may_commit, where_going, where_working}
 use Rattle.spe_core.specs.Laid.{laid}
-use Rattle.spe_core.specs.Serial.{ReadFrom, page_at}
+use Rattle.spe_core.specs.Serial.{ReadFrom}
 use Rattle.spe_core.specs.Sheets.{has_sheet, pages_at}
-use Rattle.spe_core.specs.Sound.{IsSound, now_laid}
+use Rattle.spe_core.specs.Sound.{IsDoing, IsSound, journalled_of, now_laid, works_in, written_of}
 use Rattle.spe_core.specs.State.{Committed, Live, State, live_of}
-use Rattle.spe_core.proofs.SoundBare.{HasFilePages, IsBared, bare_named, bare_recovers, bare_rests, old_pages}
-use Rattle.spe_core.proofs.SoundCommit.{cut_bares, new_pages, next_named}
-use Rattle.spe_core.proofs.SoundFiles.{files_stay_after}
+use Rattle.spe_core.proofs.SoundCommit.{can_commit, next_counted, next_laid}
 use Rattle.spe_core.proofs.SoundLaid.{AreOf, counted_of, laid_all, laid_before, laid_next, paging_of}
-use Rattle.spe_core.proofs.SoundPages.{IsAt, is_at}
 use Rattle.spe_core.proofs.SoundSheets.{none_passes, sheet_first}
-use Rattle.spe_core.proofs.SoundState.{IsAtWork, going_with, has_ended, recovered_of, sound_like, working_with}
-use Rattle.spe_core.proofs.SoundWork.{bare_but}
+use Rattle.spe_core.proofs.SoundState.{IsAtWork, going_with, goes_on, sound_like, working_with}
+use Rattle.spe_core.proofs.SoundSteps.{bare_journal}
+use Rattle.spe_core.proofs.SoundWorks.{going_has, works_ended}
 
--- where no journalled page is written, the file has each page that is counted
-unchanged : (s : State) (id : ℕ) (t : Live) → IsSound s → IsAtWork s id t → has_changed t ≡ false → (p : ℕ) (bytes : List ℕ) → page_at (now_laid s) p ≡ Some bytes → file_page s.content p ≡ bytes
-unchanged s id t sound work none p bytes found =
-    let at : IsAt (now_laid s) p bytes = is_at (now_laid s) p bytes found in
-    let lacks : has_sheet p t.written ≡ false = false_from_ne_true (has_sheet p t.written) (λ has.
-    ⊎_elim
-    (λ (journalled : has_sheet p t.journalled ≡ true).
-    let clean : has_sheet p t.written ≡ false = none_passes (λ q. has_sheet q t.written) p t.journalled none (ap is_some (sym (sheet_first p t.journalled)) ∙ journalled) in
-    let impossible : true ≡ false = sym has ∙ clean in cc)
-    (λ (above : length (now_laid s) < p). absurd (omega (arith, at.high)))
-    (work.files.placed p has)) in
-    work.files.kept p bytes found lacks
+-- what the files of a core are at, after a transaction has ended
+abbrev EndedWork : State → ℕ → List (List ℕ) → Type 0
+EndedWork s id pages = AtWork (after s.content (cuts_of s.content id)) pages (without_id id (works_in journalled_of s.live)) (without_id id (works_in written_of s.live))
+
+-- its journal is cut, where it has bytes
+cut_ends : (s : State) (id : ℕ) (pages : List (List ℕ)) → (has_length s.content id ≡ true → EndedWork s id pages)
+    → (has_length s.content id ≡ false → EndedWork s id pages) → EndedWork s id pages
+cut_ends s id pages cut bare = ⊎_elim cut bare (cases_Bool (has_length s.content id))
+
+module _ (s : State) (id : ℕ) (t : Live) (w : IsAtWork s id t) where
+  abbrev journalled : Works
+  journalled = works_in journalled_of s.live
+
+  abbrev written : Works
+  written = works_in written_of s.live
+
+  low : id < 16
+  low = w.all.numbered id t w.goes
+
+  bare : has_length s.content id ≡ false → EndsBare s.content (now_laid s) journalled written id
+  bare none = bare_ends s.content (now_laid s) journalled written w.all.work id low (bare_journal s.content id none)
+
+  -- where no journalled page is written
+  undone_lists : has_changed t ≡ false → IsUndone journalled written id
+  undone_lists none p has =
+      let listed : has_sheet p t.journalled ≡ true = ap is_some (sym (going_has journalled_of s.live id t p w.goes)) ∙ has in
+      ap is_some (going_has written_of s.live id t p w.goes)
+      ∙ none_passes (λ q. has_sheet q t.written) p t.journalled none (ap is_some (sym (sheet_first p t.journalled)) ∙ listed)
+
+  pub roll_ends : has_changed t ≡ false → EndedWork s id (now_laid s)
+  roll_ends none = cut_ends s id (now_laid s)
+      (λ some. rw some (drop_works s.content (now_laid s) journalled written w.all.work id low (undone_lists none)).made)
+      (λ no_some. rw no_some (bare no_some).work)
+
+  wrote_is : written id ≡ pages_at t.written
+  wrote_is = fun_ext (λ p. going_has written_of s.live id t p w.goes)
+
+  pub commit_ends : MayCommit (now_laid s) (pages_at t.written) (file_page_size s.content) → EndedWork s id (laid_pages (now_laid s) (pages_at t.written))
+  commit_ends may =
+      let own : MayCommit (now_laid s) (written id) (file_page_size s.content) = subst (λ (m : PageMap). MayCommit (now_laid s) m (file_page_size s.content)) (sym wrote_is) may in
+      subst (λ (m : PageMap). EndedWork s id (laid_pages (now_laid s) m)) wrote_is
+      (cut_ends s id (laid_pages (now_laid s) (written id))
+      (λ some. rw some (commit_works s.content (now_laid s) journalled written w.all.work id low own).made)
+      (λ no_some. rw no_some (rw ((bare no_some).laid own) (bare no_some).work)))
 
 pub sound_roll_cut : (s : State) (id : ℕ) → IsSound s → where_going s id (λ t. not (has_changed t)) ≡ true → IsSound (with_made (update_live s id ended) (cuts_of s.content id))
 sound_roll_cut s id sound may =
     let g = going_with s id (λ t. not (has_changed t)) sound may in
     let now = after s.content (cuts_of s.content id) in
-    let b : IsBared s.content now = cut_bares s id (bare_but s.content (now_laid s) id g.t g.work.files) in
-    let f : HasFilePages s.content (now_laid s) = old_pages s.content (now_laid s) sound.recovers sound.named (unchanged s id g.t sound g.work (not-true (has_changed g.t) g.passes)) in
+    let work : EndedWork s id (now_laid s) = roll_ends s id g.t g.work (not-true (has_changed g.t) g.passes) in
     subst (λ (o : Option Live). IsSound (with_made (updated s id ended o) (cuts_of s.content id))) (sym g.its)
-    (sound_like s (with_made (with_live s id (ended g.t)) (cuts_of s.content id)) refl refl sound (files_stay_after s.content (cuts_of s.content id) ∙ sound.files)
-    (bare_recovers s.content now (now_laid s) (now_laid s) sound.recovers b f)
-    (has_ended s id g.t now (now_laid s) g.work (bare_rests s.content now (now_laid s) b f)))
+    (sound_like s (with_made (with_live s id (ended g.t)) (cuts_of s.content id)) refl refl sound work.files work.recovers
+    (goes_on s id g.t (ended g.t) now (now_laid s) g.work (λ p bytes found. absurd cc) (without_id id (works_in journalled_of s.live)) (without_id id (works_in written_of s.live))
+    (works_ended journalled_of s.live id g.t) (works_ended written_of s.live id g.t) work))
 
 get_last : (cs : List Committed) (c x : Committed) (n : ℕ) → slice_get (cs ++ c ∷ []) n ≡ Some x → ((n < length cs) × (slice_get cs n ≡ Some x)) ⊎ ((n ≡ length cs) × (c ≡ x))
 get_last [] c x zero found = inr (refl, let same : c ≡ x = cc in same)
@@ -60,30 +100,31 @@ abbrev commit_of : Live → Committed
 commit_of t = record { seen = t.seen; written = t.written }
 
 sound_committed : (s : State) (id : ℕ) (t : Live) → IsSound s → IsAtWork s id t → may_commit s t ≡ true → IsSound (with_made (with_live (with_commit s t) id (ended t)) (cuts_of s.content id))
-sound_committed s id t sound work may =
+sound_committed s id t sound w may =
     let other = with_made (with_live (with_commit s t) id (ended t)) (cuts_of s.content id) in
     let now = after s.content (cuts_of s.content id) in
     let paging = paging_of s.opening s.commits in
-    let r = recovered_of s sound in
     let a : AreOf paging (now_laid s) = counted_of paging (now_laid s) (laid_all s) in
-    let n = next_named s (now_laid s) t paging r a may in
-    let new : AreOf (lay (pages_at t.written) paging) (now_laid other) = counted_of (lay (pages_at t.written) paging) (now_laid other) (laid_next s other (commit_of t) refl refl) in
-    let b : IsBared s.content now = cut_bares s id (bare_but s.content (now_laid s) id t work.files) in
-    let f : HasFilePages s.content (now_laid other) = new_pages s.content (now_laid s) (now_laid other) id t paging r work.files a n new in
-    let recovers : Recovers now (now_laid other) = bare_recovers s.content now (now_laid s) (now_laid other) sound.recovers b f in
+    let m : MayCommit (now_laid s) (pages_at t.written) (file_page_size s.content) = can_commit s t sound may in
+    let new = laid_pages (now_laid s) (pages_at t.written) in
+    let is : now_laid other ≡ new = laid_next s other (commit_of t) refl refl ∙ next_laid s t sound paging a m in
+    let work : EndedWork s id new = commit_ends s id t w m in
     record {
-      reads = λ m c found.
+      reads = λ n c found.
           ⊎_elim
-          (λ (before : (m < length s.commits) × (slice_get s.commits m ≡ Some c)).
-          subst (λ (pages : List (List ℕ)). ReadFrom pages c) (sym (laid_before s other (commit_of t) m refl refl (omega (arith, before.0)))) (sound.reads m c before.1))
-          (λ (last : (m ≡ length s.commits) × (commit_of t ≡ c)).
-          let same : laid other m ≡ now_laid s = laid_before s other (commit_of t) m refl refl (omega (arith, last.0)) ∙ ap (laid s) last.0 in
-          subst (λ (pages : List (List ℕ)). ReadFrom pages c) (sym same) (subst (ReadFrom (now_laid s)) last.1 work.files.seen))
-          (get_last s.commits (commit_of t) c m found);
-      files = files_stay_after s.content (cuts_of s.content id) ∙ sound.files;
-      recovers = recovers;
-      named = bare_named s.content now (now_laid other) b f recovers;
-      doing = has_ended s id t now (now_laid other) work (bare_rests s.content now (now_laid other) b f);
+          (λ (before : (n < length s.commits) × (slice_get s.commits n ≡ Some c)).
+          subst (λ (pages : List (List ℕ)). ReadFrom pages c) (sym (laid_before s other (commit_of t) n refl refl (omega (arith, before.0)))) (sound.reads n c before.1))
+          (λ (last : (n ≡ length s.commits) × (commit_of t ≡ c)).
+          let same : laid other n ≡ now_laid s = laid_before s other (commit_of t) n refl refl (omega (arith, last.0)) ∙ ap (laid s) last.0 in
+          subst (λ (pages : List (List ℕ)). ReadFrom pages c) (sym same) (subst (ReadFrom (now_laid s)) last.1 (w.all.seen id t w.goes)))
+          (get_last s.commits (commit_of t) c n found);
+      files = work.files;
+      recovers = subst (Recovers now) (sym is) work.recovers;
+      counted = subst (λ (pages : List (List ℕ)). is_size_valid (header_in pages) ≡ true) (sym is) (next_counted s t sound paging a m);
+      doing =
+          subst (IsDoing s.mode (insert_entry nat_cmp s.live id (ended t)) now) (sym is)
+          (goes_on s id t (ended t) now new w (λ p bytes found. absurd cc) (without_id id (works_in journalled_of s.live)) (without_id id (works_in written_of s.live))
+          (works_ended journalled_of s.live id t) (works_ended written_of s.live id t) work);
     }
 
 pub sound_commit_cut : (s : State) (id : ℕ) → IsSound s → where_working s id (may_commit s) ≡ true → IsSound (with_made (update_live (committed s (live_of s id)) id ended) (cuts_of s.content id))

@@ -1,157 +1,154 @@
--- Each event of a transaction keeps a core sound.
-use Rattle.std.proofs.Common.{◌≡◌, ◌≢◌, ℕ, ◌%◌, ◌^◌, ◌<◌, ◌≤◌, List, [], ◌∷◌, length, refl, sym, ap, ◌∙◌, arith, subst, Bool, true, false, cond, Option, Some, ⊎_elim, inl, inr}
-use Rattle.std.specs.Prelude.{◌&&◌, ◌||◌, not, nat_le}
-use Rattle.std.proofs.lemmas.List.{nil_from_length}
-use Rattle.std.proofs.lemmas.List.Elements.{All-nil}
-use Rattle.std.proofs.lemmas.Bool.{and_parts, cases_eq, leb-true, ltb-false, ltb-true, not-true, or_cases}
-use Rattle.spe_model.specs.Rollback.{has_length}
+-- Each event of a transaction that has not ended keeps a core sound.
+use Rattle.std.proofs.Common.{◌≡◌, ◌≢◌, ℕ, ◌<◌, ◌≤◌, List, [], ◌∷◌, length, refl, sym, ap, ◌∙◌, arith, subst, Bool, true, false, cond, Option, Some, None, ⊎_elim}
+use Rattle.std.specs.Prelude.{◌&&◌, ◌||◌, ◌==◌, not, is_some}
+use Rattle.std.specs.Ordering.{nat_cmp}
+use Rattle.std.specs.BTreeMap.{insert_entry}
+use Rattle.std.proofs.lemmas.Bool.{cases_eq, or_cases}
 use Rattle.spe_model.specs.Content.{Content}
-use Rattle.spe_model.specs.Recovery.{file_page, journal_of}
-use Rattle.spe_model.specs.Trace.{made_by}
-use Rattle.spe_core.specs.Changed.{fresh, head_write, record_write, update_live, updated, with_journalled, with_live, with_made, with_read}
-use Rattle.spe_core.specs.Enabled.{count_of, have_all_ended, is_page, is_serving, where_working}
-use Rattle.spe_core.specs.Laid.{page_in}
-use Rattle.spe_core.specs.Serial.{page_at}
-use Rattle.spe_core.specs.Sheets.{has_sheet, sheet_at, with_sheet}
-use Rattle.spe_core.specs.Sound.{AreAtRest, AreWorked, IsResting, IsSound, IsWorking, now_laid}
-use Rattle.spe_core.specs.State.{Live, State, is_ended, live_in}
-use Rattle.spe_core.proofs.SoundCommit.{pages_of_is}
-use Rattle.spe_core.proofs.SoundHead.{IsJournallable, head_made, record_made}
-use Rattle.spe_core.proofs.SoundPages.{page_there}
-use Rattle.spe_core.proofs.SoundSheets.{all_pass, live_first, live_other, live_same, with_other, with_same}
-use Rattle.spe_core.proofs.SoundState.{goes_on, goes_on_same, recovered_of, served, serving, sound_like, working_with}
-
--- a transaction begins where all others have ended
-begun_files : (content : Content) (pages : List (List ℕ)) (id : ℕ) → id < 16 → AreAtRest content pages → AreWorked content pages id fresh
-begun_files content pages id low rest = record {
-  numbered = low;
-  bare = λ other apart. rest.bare other;
-  journal = inl (rest.bare id, refl);
-  seen = λ p bytes found. absurd cc;
-  before = All-nil (λ (sheet : ℕ × List ℕ). page_at pages sheet.0 ≡ Some sheet.1);
-  placed = λ p has. absurd cc;
-  written = λ p bytes found. absurd cc;
-  kept = λ p bytes found lacks. rest.whole p bytes found;
-}
+use Rattle.spe_model.specs.Recovery.{file_page}
+use Rattle.spe_model.specs.Rollback.{has_length}
+use Rattle.spe_model.specs.Settled.{page_in}
+use Rattle.spe_model.specs.Trace.{Operation, made_by}
+use Rattle.spe_transactions.specs.Made.{Makes}
+use Rattle.spe_transactions.specs.Pages.{page_at}
+use Rattle.spe_transactions.specs.Work.{AtWork, Works, no_works, with_page, without_page}
+use Rattle.spe_transactions.proofs.PageLemmas.{page_there}
+use Rattle.spe_core.specs.Changed.{fresh, head_write, page_write, record_write, undo_of_live, undo_writes, undone, update_live, updated, with_journalled, with_live, with_made, with_read, with_written}
+use Rattle.spe_core.specs.Enabled.{has_changed, have_all_ended, is_page, is_page_for, is_serving, is_writable, where_going, where_working}
+use Rattle.spe_core.specs.Sheets.{Sheets, has_sheet, sheet_at, with_sheet}
+use Rattle.spe_core.specs.Sound.{AreServed, IsGoing, IsSound, journalled_of, listed, now_laid, works_in, written_of}
+use Rattle.spe_core.specs.State.{Live, State, is_ended, live_in, live_of}
+use Rattle.spe_core.proofs.SoundSheets.{all_pass, live_first, with_other, with_same}
+use Rattle.spe_core.proofs.SoundState.{HasSeen, IsAtWork, going_with, goes_on, one_changed, served, serving, sound_like, working_with}
+use Rattle.spe_core.proofs.SoundSteps.{counted_page, head_makes, none_lists, put_makes, record_makes, undo_makes}
+use Rattle.spe_core.proofs.SoundWorks.{works_are, works_none, works_same, works_with, works_without}
 
 each_ended : (s : State) → have_all_ended s ≡ true → (i : ℕ) (u : Live) → live_in i s.live ≡ Some u → is_ended u ≡ true
 unfolding have_all_ended
 each_ended s all i u found = all_pass is_ended i u s.live all (sym (live_first i s.live) ∙ found)
 
 -- where all have ended, the file has each page
-pub at_rest : (s : State) → IsSound s → is_serving s ≡ true → have_all_ended s ≡ true → AreAtRest s.content (now_laid s)
-at_rest s sound is_served all = ⊎_elim
-    (λ (r : IsResting s.live s.content (now_laid s)). r.files)
-    (λ (w : IsWorking s.live s.content (now_laid s)). absurd (let impossible : true ≡ false = sym (each_ended s all w.id w.t w.its) ∙ w.going in cc))
-    (served s.mode s.live s.content (now_laid s) is_served sound.doing)
+pub at_rest : (s : State) → IsSound s → is_serving s ≡ true → have_all_ended s ≡ true → (p : ℕ) (bytes : List ℕ) → page_at (now_laid s) p ≡ Some bytes → file_page s.content p ≡ bytes
+at_rest s sound is_served all p bytes found =
+    let a : AreServed s.live s.content (now_laid s) = served s.mode s.live s.content (now_laid s) is_served sound.doing in
+    a.work.kept p bytes found (λ id. ap (λ (works : Works). is_some (works id p)) (works_none written_of s.live (each_ended s all)))
+
+-- a transaction begins where all others have ended
+begun : (live : List (ℕ × Live)) (id : ℕ) (content : Content) (pages : List (List ℕ)) → ((i : ℕ) (u : Live) → live_in i live ≡ Some u → is_ended u ≡ true)
+    → AtWork content pages (works_in journalled_of live) (works_in written_of live)
+    → AtWork content pages (works_in journalled_of (insert_entry nat_cmp live id fresh)) (works_in written_of (insert_entry nat_cmp live id fresh))
+begun live id content pages ends work =
+    subst (λ (works : Works). AtWork content pages works (works_in written_of (insert_entry nat_cmp live id fresh))) (sym (same journalled_of (λ p. refl)))
+    (subst (AtWork content pages (works_in journalled_of live)) (sym (same written_of (λ p. refl))) work)
+  where
+    same : (part : Live → Sheets) → ((p : ℕ) → listed part (Some fresh) p ≡ None) → works_in part (insert_entry nat_cmp live id fresh) ≡ works_in part live
+    same part none = works_are part live id fresh (works_in part live) (λ p. none p ∙ sym (ap (λ (works : Works). works id p) (works_none part live ends))) (λ i p other. refl)
 
 pub sound_begin : (s : State) (id : ℕ) → IsSound s → is_serving s ≡ true → id < 16 → have_all_ended s ≡ true → IsSound (with_live s id fresh)
 sound_begin s id sound is_served low all =
     let ends = each_ended s all in
-    let rest = at_rest s sound is_served all in
+    let a : AreServed s.live s.content (now_laid s) = served s.mode s.live s.content (now_laid s) is_served sound.doing in
     sound_like s (with_live s id fresh) refl refl sound sound.files sound.recovers
     (serving s.mode (with_live s id fresh).live s.content (now_laid s) is_served
-    (inr
-    (record {
-      id = id;
-      t = fresh;
-      its = live_same id fresh s.live;
-      going = refl;
-      others = λ other u apart found. ends other u (sym (live_other id other fresh s.live apart) ∙ found);
-      files = begun_files s.content (now_laid s) id low rest;
-    })))
+    (one_changed s.live id fresh s.content (now_laid s) low (λ other x g. absurd (let impossible : true ≡ false = sym (ends other x g.its) ∙ g.going in cc)) (λ p bytes found. absurd cc)
+    (begun s.live id s.content (now_laid s) ends a.work)))
 
--- a page that is counted
-counted_page : (s : State) (page : ℕ) → IsSound s → is_page s page ≡ true → (1 ≤ page) × (page ≤ length (now_laid s))
-counted_page s page sound is =
-    let parts = and_parts (nat_le 1 page) (nat_le page (count_of s)) is in
-    let count : count_of s ≡ length (now_laid s) = ap length (pages_of_is s.content (now_laid s) sound.recovers) in
-    let high : page ≤ count_of s = leb-true page (count_of s) parts.1 in
-    (leb-true 1 page parts.0, omega arith)
+-- an operation that leaves the pages, and what the transaction lists then
+made_sound : (s : State) (id : ℕ) (t u : Live) (o : Operation) (journalled written : Works) → IsSound s → IsAtWork s id t → HasSeen (now_laid s) u
+    → works_in journalled_of (insert_entry nat_cmp s.live id u) ≡ journalled → works_in written_of (insert_entry nat_cmp s.live id u) ≡ written
+    → Makes s.content o (now_laid s) (now_laid s) journalled written → IsSound (with_made (with_live s id u) (o ∷ []))
+made_sound s id t u o journalled written sound w seen j n m =
+    sound_like s (with_made (with_live s id u) (o ∷ [])) refl refl sound m.made.files m.made.recovers
+    (goes_on s id t u (made_by o s.content) (now_laid s) w seen journalled written j n m.made)
 
 -- a page is read that the transaction neither wrote nor read
-read_files : (content : Content) (pages : List (List ℕ)) (id page : ℕ) (t : Live) → AreWorked content pages id t → 1 ≤ page → page ≤ length pages → has_sheet page t.written ≡ false
-    → AreWorked content pages id (record t { seen = with_sheet page (file_page content page) t.seen })
-read_files content pages id page t work low high lacks = record {
-  numbered = work.numbered;
-  bare = work.bare;
-  journal = work.journal;
-  seen = λ p bytes found.
-      ⊎_elim
-      (λ (here : p ≡ page).
-      let both : Some (file_page content page) ≡ Some bytes = sym (with_same page (file_page content page) t.seen) ∙ ap (λ (n : ℕ). sheet_at n (with_sheet page (file_page content page) t.seen)) (sym here) ∙ found in
-      let is : file_page content page ≡ bytes = cc in
-      let there : page_at pages page ≡ Some (page_in pages page) = page_there pages page low high in
-      ap (page_at pages) here ∙ there ∙ ap (λ (b : List ℕ). Some b) (sym (work.kept page (page_in pages page) there lacks) ∙ is))
-      (λ (other : p ≢ page). work.seen p bytes (sym (with_other page p (file_page content page) t.seen other) ∙ found))
-      (cases_eq p page);
-  before = work.before;
-  placed = work.placed;
-  written = work.written;
-  kept = work.kept;
-}
+read_seen : (s : State) (id page : ℕ) (t : Live) → IsSound s → IsAtWork s id t → 1 ≤ page → page ≤ length (now_laid s) → has_sheet page t.written ≡ false
+    → HasSeen (now_laid s) (record t { seen = with_sheet page (file_page s.content page) t.seen })
+read_seen s id page t sound w low high lacks p bytes found = ⊎_elim
+    (λ (here : p ≡ page).
+    let both : Some (file_page s.content page) ≡ Some bytes = sym (with_same page (file_page s.content page) t.seen) ∙ ap (λ (n : ℕ). sheet_at n (with_sheet page (file_page s.content page) t.seen)) (sym here) ∙ found in
+    let is : file_page s.content page ≡ bytes = cc in
+    let there : page_at (now_laid s) page ≡ Some (page_in (now_laid s) page) = page_there (now_laid s) page low high in
+    let own : file_page s.content page ≡ page_in (now_laid s) page = w.all.work.kept page (page_in (now_laid s) page) there (none_lists s id t sound w written_of page lacks) in
+    ap (page_at (now_laid s)) here ∙ there ∙ ap (λ (b : List ℕ). Some b) (sym own ∙ is))
+    (λ (other : p ≢ page). w.all.seen id t w.goes p bytes (sym (with_other page p (file_page s.content page) t.seen other) ∙ found))
+    (cases_eq p page)
 
-read_made : (content : Content) (pages : List (List ℕ)) (id page : ℕ) (t : Live) → AreWorked content pages id t → ((has_sheet page t.written ≡ false) → (1 ≤ page) × (page ≤ length pages))
-    → AreWorked content pages id (with_read page (file_page content page) t)
-read_made content pages id page t work counted = by_tests (has_sheet page t.written) (has_sheet page t.seen) refl
-  where
-    by_tests : (wrote read : Bool) → has_sheet page t.written ≡ wrote → AreWorked content pages id (cond (wrote || read) t (record t { seen = with_sheet page (file_page content page) t.seen }))
-    by_tests true read e = work
-    by_tests false true e = work
-    by_tests false false e = read_files content pages id page t work (counted e).0 (counted e).1 e
+-- what a reading leaves of a transaction
+record IsRead (pages : List (List ℕ)) (t u : Live) : Type 0 where
+  over : is_ended u ≡ is_ended t
+  journalled : u.journalled ≡ t.journalled
+  written : u.written ≡ t.written
+  seen : HasSeen pages u
 
-read_phase : (content : Content) (page : ℕ) (t : Live) → is_ended (with_read page (file_page content page) t) ≡ is_ended t
-read_phase content page t = by_test (has_sheet page t.written || has_sheet page t.seen)
+read_made : (s : State) (id page : ℕ) (t : Live) → IsSound s → IsAtWork s id t → ((has_sheet page t.written ≡ false) → (1 ≤ page) × (page ≤ length (now_laid s)))
+    → IsRead (now_laid s) t (with_read page (file_page s.content page) t)
+read_made s id page t sound w counted = by_tests (has_sheet page t.written) (has_sheet page t.seen) refl
   where
-    by_test : (there : Bool) → is_ended (cond there t (record t { seen = with_sheet page (file_page content page) t.seen })) ≡ is_ended t
-    by_test true = refl
-    by_test false = refl
+    same : IsRead (now_laid s) t t
+    same = record { over = refl; journalled = refl; written = refl; seen = w.all.seen id t w.goes }
+
+    by_tests : (wrote read : Bool) → has_sheet page t.written ≡ wrote → IsRead (now_laid s) t (cond (wrote || read) t (record t { seen = with_sheet page (file_page s.content page) t.seen }))
+    by_tests true read e = same
+    by_tests false true e = same
+    by_tests false false e = record { over = refl; journalled = refl; written = refl; seen = read_seen s id page t sound w (counted e).0 (counted e).1 e }
 
 pub sound_read : (s : State) (id page : ℕ) → IsSound s → where_working s id (λ t. is_page s page || has_sheet page t.written) ≡ true → IsSound (update_live s id (with_read page (file_page s.content page)))
 sound_read s id page sound may =
     let g = working_with s id (λ t. is_page s page || has_sheet page t.written) sound may in
     let u = with_read page (file_page s.content page) g.t in
-    let files : AreWorked s.content (now_laid s) id u =
-    read_made s.content (now_laid s) id page g.t g.work.files
+    let r : IsRead (now_laid s) g.t u =
+    read_made s id page g.t sound g.work
     (λ lacks.
     ⊎_elim
     (λ (is : is_page s page ≡ true). counted_page s page sound is)
     (λ (has : has_sheet page g.t.written ≡ true). absurd (let impossible : true ≡ false = sym has ∙ lacks in cc))
     (or_cases (is_page s page) (has_sheet page g.t.written) g.passes)) in
+    let going : is_ended u ≡ false = r.over ∙ g.work.goes.going in
     subst (λ (o : Option Live). IsSound (updated s id (with_read page (file_page s.content page)) o)) (sym g.its)
-    (sound_like s (with_live s id u) refl refl sound sound.files sound.recovers (goes_on s id g.t u s.content (now_laid s) g.work (read_phase s.content page g.t ∙ g.work.going) files))
-
--- the journal is begun
-pub bare_journal : (s : State) (id : ℕ) → has_length s.content id ≡ false → journal_of s.content id ≡ []
-bare_journal s id none = nil_from_length (journal_of s.content id) (let few : length (journal_of s.content id) ≤ 0 = ltb-false 0 (length (journal_of s.content id)) none in omega arith)
+    (sound_like s (with_live s id u) refl refl sound sound.files sound.recovers
+    (goes_on s id g.t u s.content (now_laid s) g.work r.seen (works_in journalled_of s.live) (works_in written_of s.live)
+    (works_same journalled_of s.live id u g.t g.work.goes going r.journalled) (works_same written_of s.live id u g.t g.work.goes going r.written) g.work.all.work))
 
 pub sound_open_journal : (s : State) (id : ℕ) → IsSound s → where_working s id (λ t. not (has_length s.content id)) ≡ true → IsSound (with_made s (head_write s id ∷ []))
 sound_open_journal s id sound may =
     let g = working_with s id (λ t. not (has_length s.content id)) sound may in
-    let none : journal_of s.content id ≡ [] = bare_journal s id (not-true (has_length s.content id) g.passes) in
-    let step = head_made s.content (now_laid s) id g.t (recovered_of s sound) g.work.files (s.made % 2 ^ 32) (count_of s) (omega arith) none in
-    sound_like s (with_made s (head_write s id ∷ [])) refl refl sound step.files step.recovers
-    (goes_on_same s id g.t (made_by (head_write s id) s.content) (now_laid s) g.work step.work)
-
--- a page is journalled
-pub can_journal : (s : State) (id page : ℕ) (t : Live) → IsSound s → (has_length s.content id && is_page s page && not (has_sheet page t.journalled)) ≡ true → IsJournallable s.content (now_laid s) id t page
-can_journal s id page t sound may =
-    let one = and_parts (has_length s.content id && is_page s page) (not (has_sheet page t.journalled)) may in
-    let two = and_parts (has_length s.content id) (is_page s page) one.0 in
-    let counted = counted_page s page sound two.1 in
-    record {
-      low = counted.0;
-      high = counted.1;
-      fresh = not-true (has_sheet page t.journalled) one.1;
-      begun = λ none. let some : 0 < length (journal_of s.content id) = ltb-true 0 (length (journal_of s.content id)) two.0 in omega (arith, ap length none);
-    }
+    let m = head_makes s id g.t sound g.work g.passes in
+    let a = g.work.all in
+    sound_like s (with_made s (head_write s id ∷ [])) refl refl sound m.made.files m.made.recovers
+    (serving s.mode s.live (made_by (head_write s id) s.content) (now_laid s) g.work.serves (record { work = m.made; one = a.one; numbered = a.numbered; seen = a.seen }))
 
 pub sound_journal : (s : State) (id page : ℕ) → IsSound s → where_working s id (λ t. has_length s.content id && is_page s page && not (has_sheet page t.journalled)) ≡ true
     → IsSound (with_made (update_live s id (with_journalled page (file_page s.content page))) (record_write s id page ∷ []))
 sound_journal s id page sound may =
     let g = working_with s id (λ t. has_length s.content id && is_page s page && not (has_sheet page t.journalled)) sound may in
-    let u = with_journalled page (file_page s.content page) g.t in
-    let step = record_made s.content (now_laid s) id g.t (recovered_of s sound) g.work.files page (can_journal s id page g.t sound g.passes) in
-    subst (λ (o : Option Live). IsSound (with_made (updated s id (with_journalled page (file_page s.content page)) o) (record_write s id page ∷ []))) (sym g.its)
-    (sound_like s (with_made (with_live s id u) (record_write s id page ∷ [])) refl refl sound step.files step.recovers
-    (goes_on s id g.t u (made_by (record_write s id page) s.content) (now_laid s) g.work g.work.going step.work))
+    let bytes = file_page s.content page in
+    let u = with_journalled page bytes g.t in
+    subst (λ (o : Option Live). IsSound (with_made (updated s id (with_journalled page bytes) o) (record_write s id page ∷ []))) (sym g.its)
+    (made_sound s id g.t u (record_write s id page) (with_page id page bytes (works_in journalled_of s.live)) (works_in written_of s.live) sound g.work (g.work.all.seen id g.t g.work.goes)
+    (works_with journalled_of s.live id u g.t page bytes g.work.goes g.work.goes.going refl) (works_same written_of s.live id u g.t g.work.goes g.work.goes.going refl)
+    (record_makes s id g.t sound g.work page g.passes))
+
+pub sound_write_bytes : (s : State) (id page : ℕ) (bytes : List ℕ) → IsSound s → where_working s id (λ t. is_page_for s page bytes && is_writable s page t) ≡ true
+    → IsSound (with_made (update_live s id (with_written page bytes)) (page_write s page bytes ∷ []))
+sound_write_bytes s id page bytes sound may =
+    let g = working_with s id (λ t. is_page_for s page bytes && is_writable s page t) sound may in
+    let u = with_written page bytes g.t in
+    subst (λ (o : Option Live). IsSound (with_made (updated s id (with_written page bytes) o) (page_write s page bytes ∷ []))) (sym g.its)
+    (made_sound s id g.t u (page_write s page bytes) (works_in journalled_of s.live) (with_page id page bytes (works_in written_of s.live)) sound g.work (g.work.all.seen id g.t g.work.goes)
+    (works_same journalled_of s.live id u g.t g.work.goes g.work.goes.going refl) (works_with written_of s.live id u g.t page bytes g.work.goes g.work.goes.going refl)
+    (put_makes s id g.t sound g.work page bytes g.passes))
+
+pub sound_undo_bytes : (s : State) (id : ℕ) → IsSound s → where_going s id has_changed ≡ true
+    → IsSound (with_made (update_live s id (undone (undo_of_live (live_of s id)))) (undo_writes s (undo_of_live (live_of s id))))
+sound_undo_bytes s id sound may =
+    let g = going_with s id has_changed sound may in
+    let undo = undo_makes s id g.t sound g.work g.passes in
+    let sheet = undo.0 in
+    let u = undone (Some sheet) g.t in
+    let made : IsSound (with_made (with_live s id u) (undo_writes s (Some sheet))) =
+    made_sound s id g.t u (page_write s sheet.0 sheet.1) (works_in journalled_of s.live) (without_page id sheet.0 (works_in written_of s.live)) sound g.work (g.work.all.seen id g.t g.work.goes)
+    (works_same journalled_of s.live id u g.t g.work.goes refl refl) (works_without written_of s.live id u g.t sheet.0 g.work.goes refl refl)
+    undo.2 in
+    subst (λ (o : Option Live). IsSound (with_made (updated s id (undone (undo_of_live o)) o) (undo_writes s (undo_of_live o)))) (sym g.its)
+    (subst (λ (o : Option (ℕ × List ℕ)). IsSound (with_made (with_live s id (undone o g.t)) (undo_writes s o))) (sym undo.1) made)

@@ -10,10 +10,10 @@ use Rattle.spe_model.specs.Journal.{numbers_from}
 use Rattle.spe_model.specs.Paging.{Paging, lay}
 use Rattle.spe_crash.proofs.NumbersLemmas.{pages_to-length}
 use Rattle.spe_core.specs.Laid.{alone, counted, laid, laid_over_by, named_count, page_in, pages_of}
-use Rattle.spe_core.specs.Serial.{page_at}
+use Rattle.spe_transactions.specs.Pages.{page_at}
 use Rattle.spe_core.specs.Sheets.{Sheets, has_sheet, pages_at}
 use Rattle.spe_core.specs.State.{Committed, State}
-use Rattle.spe_core.proofs.SoundPages.{is_at, page_counted}
+use Rattle.spe_transactions.proofs.PageLemmas.{is_at, page_counted}
 
 -- the pages by what a core began with and what was committed
 abbrev pub paging_of : List ℕ → List Committed → Paging

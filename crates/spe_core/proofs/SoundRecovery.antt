@@ -1,22 +1,20 @@
 -- A recovery goes on, stops, and ends.
-use Rattle.std.proofs.Common.{◌≡◌, ℕ, zero, suc, ◌+◌, ◌<◌, ◌≤◌, List, [], ◌∷◌, ◌++◌, length, take, drop, map, refl, sym, ap, ◌∙◌, arith, subst, Some, ⊎_elim, inl, inr}
-use Rattle.std.specs.Prelude.{slice_get, unwrap_or}
-use Rattle.std.proofs.lemmas.Bool.{cases_lt}
+use Rattle.std.proofs.Common.{◌≡◌, ℕ, List, [], ◌∷◌, ◌++◌, length, take, drop, refl, sym, ap, ◌∙◌, subst, inl, inr}
 use Rattle.std.proofs.lemmas.List.{append-nil, append_assoc, take-append-drop}
-use Rattle.spe_model.specs.Content.{Content, flatten}
+use Rattle.spe_model.specs.Content.{Content}
 use Rattle.spe_model.specs.Covered.{Recovers}
-use Rattle.spe_model.specs.Recovery.{file_page, journal_of, pages_to}
+use Rattle.spe_model.specs.Recovery.{journal_of}
 use Rattle.spe_model.specs.Rollback.{rule_of}
 use Rattle.spe_model.specs.Trace.{IsCut, IsTorn, Operation, after, made_by}
 use Rattle.spe_model.specs.Trace.Operation.{Write, Cut}
 use Rattle.spe_crash.proofs.RollLemmas.{rolls_cut}
 use Rattle.spe_crash.proofs.RollbackLemmas.{rolled_back}
-use Rattle.spe_crash.proofs.TraceLemmas.{after-append}
+use Rattle.spe_crash.proofs.TraceLemmas.{after-append, cut_whole}
 use Rattle.spe_core.specs.Changed.{first_only, torn_first}
-use Rattle.spe_core.specs.Serial.{page_at}
-use Rattle.spe_core.specs.Sound.{AreAtRest, IsRecovering}
+use Rattle.spe_transactions.proofs.OpeningLemmas.{opening_works}
+use Rattle.spe_core.specs.Sound.{AreServed, IsRecovering}
 use Rattle.spe_core.specs.State.{Live}
-use Rattle.spe_core.proofs.SoundPages.{IsAt, is_at, page_counted}
+use Rattle.spe_core.proofs.SoundState.{nobody_found, nobody_served}
 
 cut_front : (xs ys : List Operation) → IsCut (xs ++ ys) xs
 cut_front [] ys = tt
@@ -63,27 +61,13 @@ op_torn live content pages (Write file at bytes ∷ os) n recovers r =
     torn_made live content pages (Write file at bytes) os r (Write file at (take n bytes)) (refl, refl, (drop n bytes, sym (take-append-drop n bytes)))
 op_torn live content pages (Cut file size ∷ os) n recovers r = recovers
 
-past_all : (content : Content) (n : ℕ) → length content ≤ n → unwrap_or (flatten (slice_get content n)) [] ≡ []
-past_all [] n past = refl
-past_all (f ∷ fs) zero past = absurd (omega arith)
-past_all (f ∷ fs) (suc n) past = past_all fs n (omega arith)
-
--- after all operations the files are at rest
-pub ends_at_rest : (live : List (ℕ × Live)) (content : Content) (pages : List (List ℕ)) → length content ≡ 17 → IsRecovering live content pages [] → AreAtRest content pages
-ends_at_rest live content pages files r =
+-- after all operations the files are served, with no transaction
+pub ends_served : (live : List (ℕ × Live)) (content : Content) (pages : List (List ℕ)) → length content ≡ 17 → IsRecovering live content pages [] → AreServed live content pages
+ends_served live content pages files r =
     let all : rule_of r.first (length pages) ≡ r.made = r.rule ∙ append-nil r.made in
     let is : after r.first (rule_of r.first (length pages)) ≡ content = ap (after r.first) all ∙ sym r.now in
     let back = rolled_back r.first pages r.recovers in
-    let pages_back : map (file_page content) (pages_to (length pages)) ≡ pages = ap (λ (c : Content). map (file_page c) (pages_to (length pages))) (sym is) ∙ back.restores in
-    record {
-      bare = λ id.
-          ⊎_elim
-          (λ (low : id < 16). ap (λ (c : Content). journal_of c id) (sym is) ∙ back.empty id low)
-          (λ (past : 16 ≤ id). past_all content (id + 1) (omega arith))
-          (cases_lt id 16);
-      whole = λ p bytes found.
-          let at : IsAt pages p bytes = is_at pages p bytes found in
-          let there : page_at pages p ≡ Some (file_page content p) = ap (λ (ps : List (List ℕ)). page_at ps p) (sym pages_back) ∙ page_counted (file_page content) (length pages) p at.low at.high in
-          let both : Some (file_page content p) ≡ Some bytes = sym there ∙ found in
-          cc;
-    }
+    let recovers : Recovers content pages =
+    subst (λ (c : Content). Recovers c pages) is (cut_recovers r.first pages (rule_of r.first (length pages)) r.recovers (cut_whole (rule_of r.first (length pages)))) in
+    nobody_served live content pages (nobody_found live r.nobody)
+    (opening_works content pages files recovers (λ id low. ap (λ (c : Content). journal_of c id) (sym is) ∙ back.empty id low))

@@ -1,12 +1,11 @@
 -- Entries by number: what is first of a number, as entries are put in and taken out.
-use Rattle.std.proofs.Common.{◌≡◌, ◌≢◌, ℕ, ◌<◌, List, [], ◌∷◌, All, refl, sym, ap, ◌∙◌, arith, Bool, true, false, cond, Option, Some, None, ⊎_elim, subst}
+use Rattle.std.proofs.Common.{◌≡◌, ◌≢◌, ℕ, ◌<◌, List, [], ◌∷◌, refl, sym, ap, ◌∙◌, arith, Bool, true, false, cond, Option, Some, None, ⊎_elim, subst}
 use Rattle.std.specs.Prelude.{◌==◌, not, nat_lt, filter, is_some}
 use Rattle.std.specs.List.{find, list_any, list_all}
 use Rattle.std.specs.Ordering.{nat_cmp}
 use Rattle.std.specs.BTreeMap.{insert_entry}
-use Rattle.std.proofs.lemmas.Bool.{cases_Bool, cases_order, cases_eq, and_parts, or_parts}
+use Rattle.std.proofs.lemmas.Bool.{cases_Bool, cases_order, cases_eq, and_parts, eq-eqb, ne_eqb, or_parts}
 use Rattle.std.proofs.lemmas.Bool.Decides.{nat_tests}
-use Rattle.std.proofs.lemmas.List.Elements.{All-head, All-tail, All-cons, All-nil}
 use Rattle.spe_core.specs.Sheets.{Sheets, sheet_at, with_sheet, without_sheet}
 use Rattle.spe_core.specs.State.{Live, live_in}
 
@@ -65,24 +64,6 @@ put_other k q v (e ∷ es) other = ⊎_elim
     rw (less, here) (rw (put_other k q v es other) refl)))
     (cases_order k e.0)
 
-pub put_all : {X : Type 0} (P : ℕ × X → Type 0) (k : ℕ) (v : X) (es : List (ℕ × X)) → All P es → P (k, v) → All P (insert_entry nat_cmp es k v)
-put_all P k v [] all new = All-cons P (k, v) [] new (All-nil P)
-put_all {X} P k v (e ∷ es) all new = ⊎_elim
-    (λ (same : k ≡ e.0).
-    let less : nat_lt k e.0 ≡ false = grind (arith, nat_tests) in
-    let here : (k == e.0) ≡ true = grind (arith, nat_tests) in
-    let own : P (e.0, v) = subst (λ (n : ℕ). P (n, v)) same new in
-    rw (less, here) (All-cons P (e.0, v) es own (All-tail P e es all)))
-    (⊎_elim
-    (λ (below : k < e.0).
-    let less : nat_lt k e.0 ≡ true = grind (arith, nat_tests) in
-    rw less (All-cons P (k, v) (e ∷ es) new all))
-    (λ (above : e.0 < k).
-    let less : nat_lt k e.0 ≡ false = grind (arith, nat_tests) in
-    let here : (k == e.0) ≡ false = grind (arith, nat_tests) in
-    rw (less, here) (All-cons P e (insert_entry nat_cmp es k v) (All-head P e es all) (put_all P k v es (All-tail P e es all) new))))
-    (cases_order k e.0)
-
 take_same : {X : Type 0} (k : ℕ) (es : List (ℕ × X)) → first_at k (without_at k es) ≡ None
 take_same k [] = refl
 take_same k (e ∷ es) = ⊎_elim
@@ -100,21 +81,6 @@ take_other k q (e ∷ es) other = ⊎_elim
     (λ (not_here : e.0 ≢ k).
     let no_own : (e.0 == k) ≡ false = grind (arith, nat_tests) in
     rw no_own (rw (take_other k q es other) refl))
-    (cases_eq e.0 k)
-
--- what is so of all entries is so of the first of a number
-pub first_all : {X : Type 0} (P : ℕ × X → Type 0) (k : ℕ) (v : X) (es : List (ℕ × X)) → All P es → first_at k es ≡ Some v → P (k, v)
-first_all P k v [] all found = absurd cc
-first_all {X} P k v (e ∷ es) all found = ⊎_elim
-    (λ (here : e.0 ≡ k).
-    let own : (e.0 == k) ≡ true = grind (arith, nat_tests) in
-    let is : Some e.1 ≡ Some v = rw own at found in
-    let same : e.1 ≡ v = cc in
-    let head : P (e.0, e.1) = All-head P e es all in
-    subst (λ (x : X). P (k, x)) same (subst (λ (n : ℕ). P (n, e.1)) here head))
-    (λ (not_here : e.0 ≢ k).
-    let no_own : (e.0 == k) ≡ false = grind (arith, nat_tests) in
-    first_all P k v es (All-tail P e es all) (rw no_own at found))
     (cases_eq e.0 k)
 
 -- a test of the number that no entry passes is not passed by the first of a number
@@ -141,31 +107,27 @@ all_pass {X} test k v (e ∷ es) passed found =
     (λ (not_here : (e.0 == k) ≡ false). all_pass test k v es parts.1 (rw not_here at found))
     (cases_Bool (e.0 == k))
 
--- the entry that a test finds first
-pub found_all : {X : Type 0} (P : X → Type 0) (test : X → Bool) (x : X) (xs : List X) → All P xs → find test xs ≡ Some x → P x
-found_all P test x [] all found = absurd cc
-found_all {X} P test x (y ∷ ys) all found = ⊎_elim
-    (λ (here : test y ≡ true).
-    let is : Some y ≡ Some x = rw here at found in
-    let same : y ≡ x = cc in
-    subst P same (All-head P y ys all))
-    (λ (not_here : test y ≡ false). found_all P test x ys (All-tail P y ys all) (rw not_here at found))
-    (cases_Bool (test y))
-
-pub found_among : {X : Type 0} (test : ℕ × X → Bool) (x : ℕ × X) (es : List (ℕ × X)) → find test es ≡ Some x → is_some (first_at x.0 es) ≡ true
-found_among test x [] found = absurd cc
-found_among {X} test x (e ∷ es) found = ⊎_elim
-    (λ (here : test e ≡ true).
+-- the entry that a test of numbers finds is the first of its number
+pub found_first : {X : Type 0} (test : ℕ → Bool) (x : ℕ × X) (es : List (ℕ × X)) → find (λ (e : ℕ × X). test e.0) es ≡ Some x → first_at x.0 es ≡ Some x.1
+found_first test x [] found = absurd cc
+found_first {X} test x (e ∷ es) found = ⊎_elim
+    (λ (here : test e.0 ≡ true).
     let is : Some e ≡ Some x = rw here at found in
-    let same : e.0 ≡ x.0 = let whole : e ≡ x = cc in ap (λ (z : ℕ × X). z.0) whole in
-    let own : (e.0 == x.0) ≡ true = grind (arith, nat_tests) in
-    rw own refl)
-    (λ (not_here : test e ≡ false).
-    ⊎_elim
-    (λ (own : (e.0 == x.0) ≡ true). rw own refl)
-    (λ (other : (e.0 == x.0) ≡ false). rw other (found_among test x es (rw not_here at found)))
-    (cases_Bool (e.0 == x.0)))
-    (cases_Bool (test e))
+    let same : e ≡ x = cc in
+    let own : (e.0 == x.0) ≡ true = eq-eqb e.0 x.0 (ap (λ (z : ℕ × X). z.0) same) in
+    rw own (ap (λ (z : ℕ × X). Some z.1) same))
+    (λ (not_here : test e.0 ≡ false).
+    let later : find (λ (y : ℕ × X). test y.0) es ≡ Some x = rw not_here at found in
+    let other : (e.0 == x.0) ≡ false = ne_eqb e.0 x.0 (λ same. let both : false ≡ true = sym not_here ∙ ap test same ∙ passes x es later in cc) in
+    rw other (found_first test x es later))
+    (cases_Bool (test e.0))
+  where
+    passes : (y : ℕ × X) (ys : List (ℕ × X)) → find (λ (z : ℕ × X). test z.0) ys ≡ Some y → test y.0 ≡ true
+    passes y [] none = absurd cc
+    passes y (z ∷ zs) some = ⊎_elim
+        (λ (here : test z.0 ≡ true). let is : Some z ≡ Some y = rw here at some in let same : z ≡ y = cc in sym (ap (λ (w : ℕ × X). test w.0) same) ∙ here)
+        (λ (not_here : test z.0 ≡ false). passes y zs (rw not_here at some))
+        (cases_Bool (test z.0))
 
 pub found_some : {X : Type 0} (test : X → Bool) (xs : List X) → list_any test xs ≡ true → (x : X) × (find test xs ≡ Some x)
 found_some test [] some = absurd cc

@@ -1,37 +1,25 @@
 -- A stop, wherever it tears the write that was to come next, keeps a core sound; and so does each operation of a recovery.
-use Rattle.std.proofs.Common.{◌≡◌, ℕ, ◌%◌, ◌^◌, List, [], ◌∷◌, length, take, refl, sym, ap, ◌∙◌, arith, subst, true, Option, Some, None, inl}
+use Rattle.std.proofs.Common.{◌≡◌, ℕ, List, [], ◌∷◌, length, take, refl, sym, ap, ◌∙◌, arith, subst, true, Option, Some, None}
 use Rattle.std.specs.Prelude.{◌&&◌, not}
 use Rattle.std.proofs.lemmas.Bool.{and_parts, not-true}
-use Rattle.spe_model.specs.declared.file.FileNo.TheVariants.{Database}
 use Rattle.spe_model.specs.Content.{Content}
-use Rattle.spe_model.specs.Covered.{Recovers, first_place}
-use Rattle.spe_model.specs.Recovery.{journal_of}
+use Rattle.spe_model.specs.Covered.{Recovers}
+use Rattle.spe_model.specs.Recovery.{file_page}
 use Rattle.spe_model.specs.Rollback.{rule_of, has_length}
 use Rattle.spe_model.specs.Trace.{Operation, after}
-use Rattle.spe_model.specs.Trace.Operation.{Write}
 use Rattle.spe_core.specs.declared.event.Event.{Event, out-Event}
 use Rattle.spe_core.specs.declared.event.Event.TheOpen.{Event-F}
 use Rattle.spe_core.specs.Opened.{Opened}
-use Rattle.spe_core.specs.Changed.{operations_of, page_write, recovery_left, recovery_op, stopped, torn_first, torn_of, undo_of_live, undo_writes, with_made}
-use Rattle.spe_core.specs.Enabled.{count_of, has_changed, is_page, is_page_for, is_step_enabled, is_stop_enabled, is_writable, makes_write, page_size_of, serves}
+use Rattle.spe_core.specs.Changed.{head_write, operations_of, page_write, record_write, recovery_left, recovery_op, stopped, torn_first, torn_of, undo_of_live, undo_writes, with_made}
+use Rattle.spe_core.specs.Enabled.{has_changed, is_page, is_page_for, is_step_enabled, is_stop_enabled, is_writable, makes_write, serves}
 use Rattle.spe_core.specs.Sheets.{has_sheet}
-use Rattle.spe_core.specs.Sound.{IsDoing, IsSound, now_laid}
-use Rattle.spe_core.specs.State.{Live, Mode, Serving, Recovering, State, live_in}
-use Rattle.spe_core.proofs.SoundBytes.{put_writable, undo_next}
-use Rattle.spe_core.proofs.SoundCommit.{pages_of_is}
-use Rattle.spe_core.proofs.SoundEvents.{bare_journal, can_journal}
-use Rattle.spe_core.proofs.SoundFiles.{body_of, files_stay, files_stay_after, write_is}
-use Rattle.spe_core.proofs.SoundHead.{head_torn, record_torn}
-use Rattle.spe_core.proofs.SoundRecovery.{ends_at_rest, op_made, op_recovers, op_torn}
-use Rattle.spe_core.proofs.SoundState.{going_with, recovered_of, sound_like, working_with}
-use Rattle.spe_core.proofs.SoundWrite.{IsWritable, torn_recovers}
-
--- some first bytes of a page are written
-page_torn : (s : State) (page n : ℕ) (bytes : List ℕ) → IsWritable s.content (now_laid s) page bytes → Recovers (after s.content (torn_first (page_write s page bytes ∷ []) n)) (now_laid s)
-page_torn s page n bytes can =
-    let is : torn_first (page_write s page bytes ∷ []) n ≡ Write Database (first_place (page_size_of s) page) (take n (body_of page bytes)) ∷ [] =
-    ap (λ (o : Operation). torn_first (o ∷ []) n) (write_is (page_size_of s) page bytes) in
-    subst (λ (ops : List Operation). Recovers (after s.content ops) (now_laid s)) (sym is) (torn_recovers s.content (now_laid s) page n bytes can)
+use Rattle.spe_core.specs.Sound.{IsDoing, IsSound, journalled_of, now_laid, works_in, written_of}
+use Rattle.spe_core.specs.State.{Live, Mode, Serving, Recovering, State}
+use Rattle.spe_transactions.specs.Work.{with_page, without_page}
+use Rattle.spe_transactions.proofs.FilesLemmas.{files_stay, files_stay_after}
+use Rattle.spe_core.proofs.SoundRecovery.{ends_served, op_made, op_recovers, op_torn}
+use Rattle.spe_core.proofs.SoundState.{going_with, sound_like, torn_leaves, working_with}
+use Rattle.spe_core.proofs.SoundSteps.{head_makes, pages_of_is, put_makes, record_makes, undo_makes}
 
 recovery_torn : (live : List (ℕ × Live)) (content : Content) (pages : List (List ℕ)) (mode : Mode) (n : ℕ) → Recovers content pages → IsDoing mode live content pages
     → Recovers (after content (torn_first (recovery_op mode) n)) pages
@@ -42,21 +30,22 @@ recovery_torn live content pages (Recovering left) n recovers doing = op_torn li
 event_torn : (s : State) (o : Opened) (n : ℕ) → IsSound s → makes_write s o ≡ true → is_step_enabled s o ≡ true → Recovers (after s.content (torn_first (operations_of s o) n)) (now_laid s)
 event_torn s (Event-F.OpenJournal id) n sound writes may =
     let g = working_with s id (λ t. not (has_length s.content id)) sound may in
-    let none : journal_of s.content id ≡ [] = bare_journal s id (not-true (has_length s.content id) g.passes) in
-    head_torn s.content (now_laid s) id g.t (recovered_of s sound) g.work.files (s.made % 2 ^ 32) (count_of s) (omega arith) none n
+    torn_leaves s.content (head_write s id) (now_laid s) (works_in journalled_of s.live) (works_in written_of s.live) n sound.recovers (head_makes s id g.t sound g.work g.passes)
 event_torn s (Event-F.Journal id page) n sound writes may =
     let g = working_with s id (λ t. has_length s.content id && is_page s page && not (has_sheet page t.journalled)) sound may in
-    record_torn s.content (now_laid s) id g.t (recovered_of s sound) g.work.files page (can_journal s id page g.t sound g.passes) n
+    torn_leaves s.content (record_write s id page) (now_laid s) (with_page id page (file_page s.content page) (works_in journalled_of s.live)) (works_in written_of s.live) n sound.recovers
+    (record_makes s id g.t sound g.work page g.passes)
 event_torn s (Event-F.WriteBytes id page bytes) n sound writes may =
     let g = working_with s id (λ t. is_page_for s page bytes && is_writable s page t) sound may in
-    page_torn s page n bytes (put_writable s id page bytes g.t sound g.work g.passes)
+    torn_leaves s.content (page_write s page bytes) (now_laid s) (works_in journalled_of s.live) (with_page id page bytes (works_in written_of s.live)) n sound.recovers
+    (put_makes s id g.t sound g.work page bytes g.passes)
 event_torn s (Event-F.UndoBytes id) n sound writes may =
     let g = going_with s id has_changed sound may in
-    let undo = undo_next s id g.t sound g.work g.passes in
+    let undo = undo_makes s id g.t sound g.work g.passes in
     let sheet = undo.0 in
     subst (λ (o : Option Live). Recovers (after s.content (torn_first (undo_writes s (undo_of_live o)) n)) (now_laid s)) (sym g.its)
-    (subst (λ (o : Option (ℕ × List ℕ)). Recovers (after s.content (torn_first (undo_writes s o) n)) (now_laid s)) (sym undo.1.next)
-    (page_torn s sheet.0 n sheet.1 undo.1.can))
+    (subst (λ (o : Option (ℕ × List ℕ)). Recovers (after s.content (torn_first (undo_writes s o) n)) (now_laid s)) (sym undo.1)
+    (torn_leaves s.content (page_write s sheet.0 sheet.1) (now_laid s) (works_in journalled_of s.live) (without_page id sheet.0 (works_in written_of s.live)) n sound.recovers undo.2))
 event_torn s Event-F.RecoverOp n sound writes may = recovery_torn s.live s.content (now_laid s) s.mode n sound.recovers sound.doing
 event_torn s _ n sound writes may = absurd cc
 
@@ -85,11 +74,7 @@ recovered : (s : State) (mode : Mode) → s.mode ≡ mode → not (serves mode) 
 recovered s Serving is may sound doing = absurd cc
 recovered s (Recovering []) is may sound doing =
     sound_like s (with_made (record s { mode = Serving }) []) refl refl sound sound.files sound.recovers
-    (inl
-    (record {
-      ended = λ id t found. absurd (let none : None ≡ Some t = ap (live_in id) (sym doing.nobody) ∙ found in cc);
-      files = ends_at_rest s.live s.content (now_laid s) sound.files doing;
-    }))
+    (ends_served s.live s.content (now_laid s) sound.files doing)
 recovered s (Recovering (o ∷ left)) is may sound doing =
     sound_like s (with_made (record s { mode = Recovering left }) (o ∷ [])) refl refl sound (files_stay o s.content ∙ sound.files)
     (op_recovers s.live s.content (now_laid s) o left doing)

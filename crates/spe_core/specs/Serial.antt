@@ -1,7 +1,8 @@
 -- What holds of a core at every moment.
-use Rattle.std.specs.Prelude.{◌≡◌, ℕ, zero, suc, ◌≤◌, true, false, List, [], ◌∷◌, length, Option, Some, None, Ok, slice_get, if◌then◌else◌}
+use Rattle.std.specs.Prelude.{◌≡◌, ℕ, ◌≤◌, true, false, List, [], ◌∷◌, length, Some, Ok, slice_get, if◌then◌else◌}
 use Rattle.spe_model.specs.Content.{Content}
 use Rattle.spe_model.specs.Recovery.{file_page, holders, recovered}
+use Rattle.spe_transactions.specs.Pages.{page_at}
 use Rattle.spe_core.specs.declared.event.Event.{Event}
 use Rattle.spe_core.specs.Sheets.{sheet_at, has_sheet}
 use Rattle.spe_core.specs.State.{State, Live, Committed, live_of, is_ended}
@@ -17,11 +18,6 @@ next s e = if enabled s e then changed s e else s
 abbrev pub after_events : State → List Event → State
 after_events s [] = s
 after_events s (e ∷ es) = after_events (next s e) es
-
--- page p of some pages, where it is one of theirs
-abbrev pub page_at : List (List ℕ) → ℕ → Option (List ℕ)
-page_at pages zero = None
-page_at pages (suc n) = slice_get pages n
 
 -- the transaction read these pages
 abbrev pub ReadFrom : List (List ℕ) → Committed → Type 0

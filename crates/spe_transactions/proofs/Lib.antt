@@ -1,0 +1,16 @@
+pub mod FilesLemmas
+pub mod PageLemmas
+pub mod PutLemmas
+pub mod WorksLemmas
+pub mod SavedLemmas
+pub mod MovedLemmas
+pub mod WorkLemmas
+pub mod OpeningLemmas
+pub mod ListLemmas
+pub mod JournalLemmas
+pub mod PageWorkLemmas
+pub mod CutWorkLemmas
+pub mod CommitsLemmas
+pub mod CutsLemmas
+pub mod KeptLemmas
+pub mod GrowthLemmas
