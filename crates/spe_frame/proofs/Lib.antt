@@ -1,0 +1,12 @@
+pub mod TimesLemmas
+pub mod TreeLemmas
+pub mod HeldLemmas
+pub mod ShiftLemmas
+pub mod StepLemmas
+pub mod FrontLemmas
+pub mod HeadLemmas
+pub mod ForestLemmas
+pub mod PickLemmas
+pub mod HeaderLemmas
+pub mod ChainLemmas
+pub mod FramedLemmas
