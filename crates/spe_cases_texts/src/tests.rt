@@ -1,3 +1,4 @@
 mod definitions;
+mod scripts;
 mod statements;
 mod tokens;

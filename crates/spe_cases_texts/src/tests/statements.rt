@@ -342,7 +342,7 @@ fn push_values(alloc: Global, text: &mut String, values: &[Value]) -> Result<(),
 }
 
 // A statement in one line.
-fn shown(alloc: Global, text: &mut String, statement: &Statement) -> Result<(), AllocError> {
+pub fn shown(alloc: Global, text: &mut String, statement: &Statement) -> Result<(), AllocError> {
     match statement {
         Statement::Select {
             table,

@@ -1,0 +1,4 @@
+pub mod Item
+pub mod Script
+pub mod Read
+pub mod Gathered
