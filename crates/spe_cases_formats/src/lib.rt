@@ -1,4 +1,4 @@
-//! Tests of the readers and writers of formats, on bytes worked out by hand.
+//! Tests of the readers and writers of varints, records and journals, on bytes worked out by hand.
 #![tactic(auto)]
 
 #[cfg(test)]

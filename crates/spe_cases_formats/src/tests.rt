@@ -1,4 +1,3 @@
 mod journals;
-mod pages;
 mod records;
 mod varints;

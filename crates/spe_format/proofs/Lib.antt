@@ -1,4 +1,9 @@
 pub mod VarintLemmas
+pub mod SpliceLemmas
+pub mod CanonicalLemmas
+pub mod CellLemmas
+pub mod ReadBackLemmas
+pub mod WritableLemmas
 pub mod PageLemmas
 pub mod ViewLemmas
 pub mod LayoutLemmas

@@ -1,4 +1,5 @@
 pub mod Answers
+pub mod Canonical
 pub mod Layout
 pub mod Spelling
 pub mod View

@@ -4,16 +4,19 @@
 //! fault that holds there; want of memory alone is free.
 #![tactic(auto)]
 
+mod canonical;
 mod cell;
 mod kind;
 mod layout;
 mod page;
+mod splice;
 mod varint;
 mod view;
 
+pub use canonical::put_page;
 pub use cell::Parts;
 pub use kind::local_size;
-pub use page::read_page;
+pub use page::{legal_is_writable, read_page};
 pub use spe_model::{Cell, Cells, Header, HeaderFault, Kind, PageCells, PageFault, page_count};
-pub use varint::{put_varint, read_varint};
+pub use varint::{put_varint, read_varint, varint_length};
 pub use view::PageView;

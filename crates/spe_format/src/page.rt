@@ -1,10 +1,11 @@
 //! B-tree pages.
 
-ghost use Rattle.std.specs.Prelude.{◌≡◌, ◌≤◌, ◌⊎◌, IfOk, length, take, IsTrue};
+ghost use Rattle.std.specs.Prelude.{◌≡◌, ◌≤◌, ◌⊎◌, IfOk, Ok, length, take, IsTrue};
 ghost use Rattle.std.specs.List.{list_all};
 ghost use Rattle.std.specs.Option.{option_map};
 ghost use Rattle.spe_model.specs.Page.{ascends, is_within, numbers, placed_at, placed_all, page_at};
 ghost use Rattle.spe_format.specs.Answers.{FindsCells, Gives};
+ghost use Rattle.spe_format.specs.Canonical.{IsWritable};
 
 use crate::cell::cell_of;
 use crate::kind::{array_start_of, is_table, kind_named, right_of};
@@ -149,3 +150,10 @@ pub fn read_page(
         right,
     })
 }
+
+/// What a page was read as can be written to a page with as many usable bytes: a law, and no work.
+pub fn legal_is_writable(cells: &PageCells, page: &[u8], at: usize, usable: usize)
+    requires inside { usable ≤ length page.now }
+    requires legal { page_at (take usable page.now) at ≡ Ok cells.now }
+    ensures { IsWritable cells.now usable }
+{}

@@ -27,7 +27,8 @@ pub fn read_varint(bytes: &[u8]) -> Option<(u64, usize)>
     None
 }
 
-fn length_of(value: u64) -> usize
+/// How many bytes a number takes in its shortest spelling, 1 to 9.
+pub fn varint_length(value: u64) -> usize
     ensures value { result ≡ varint_length value }
     ensures within { (1 ≤ result) × (result ≤ 9) }
     ensures fits { result < 9 → value < 128 ^ result }
@@ -65,10 +66,11 @@ fn put_groups(number: u64, count: usize, out: &mut [u8; 9])
 pub fn put_varint(value: u64, out: &mut [u8; 9]) -> usize
     ensures bytes { out.new ≡ varint_bytes value ++ drop result out.old }
     ensures len { result ≡ length (varint_bytes value) }
+    ensures least { result ≡ varint_length value }
     ensures reads_back { (rest : List ℕ) → varint_of (varint_bytes value ++ rest) ≡ Some (value, result) }
     ensures shortest { (bytes : List ℕ) (n : ℕ) → AreBytes bytes → varint_of bytes ≡ Some (value, n) → result ≤ n }
 {
-    let len = length_of(value);
+    let len = varint_length(value);
     if len == 9 {
         put_groups(value / 256, 8, out);
         out[8] = (value % 256) as u8;

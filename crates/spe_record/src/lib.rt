@@ -5,9 +5,13 @@
 //! of memory alone is free.
 #![tactic(auto)]
 
+mod length;
 mod record;
 mod types;
 mod values;
+mod written;
 
+pub use length::encoded_length;
 pub use record::decode;
 pub use spe_model::RecordFault;
+pub use written::encode;

@@ -1,5 +1,7 @@
-use spe_model::{RecordFault, Value};
-use spe_record::decode;
+use spe_model::{Bytes, RecordFault, Text, Value, Values};
+use spe_record::{decode, encode, encoded_length};
+use std::alloc::{AllocError, Global};
+use std::process::Abort;
 use std::test::Fail;
 
 #[test]
@@ -66,4 +68,85 @@ fn faults(rt: HostRuntime) {
         let found = decode(rt.alloc(), *bytes);
         assert!(rt; matches!(found, Err(f) if f == *fault), "{fault:?}");
     }
+}
+
+/// NULL, 0, 1, a float, an empty text and an empty blob.
+fn short_values(alloc: Global) -> Result<Values, AllocError> {
+    let mut values = Vec::new(alloc);
+    values.push(Value::Null)?;
+    values.push(Value::Int(0))?;
+    values.push(Value::Int(1))?;
+    values.push(Value::Real8([0x3f, 0xf8, 0, 0, 0, 0, 0, 0]))?;
+    values.push(Value::Text(Text::new(String::from_str(alloc, "")?)))?;
+    values.push(Value::Blob(Bytes::new(Vec::new(alloc))))?;
+    Ok(Values::new(values))
+}
+
+#[test]
+fn every_short_type_is_written(rt: HostRuntime) -> Result<(), Fail> {
+    let values = short_values(rt.alloc())?;
+    let bytes = encode(rt.alloc(), &values, None)?;
+    assert!(rt;
+        bytes.as_slice()
+            == b"\x07\x00\x08\x09\x07\x0d\x0c\x3f\xf8\x00\x00\x00\x00\x00\x00".as_slice()
+    );
+    assert_eq!(rt; encoded_length(&values, None), 15);
+    // the float's place is the rowid's
+    let bytes = encode(rt.alloc(), &values, Some(3))?;
+    assert!(rt; bytes.as_slice() == b"\x07\x00\x08\x09\x00\x0d\x0c".as_slice());
+    assert_eq!(rt; encoded_length(&values, Some(3)), 7);
+    Ok(())
+}
+
+// A record of one whole number.
+static WRITTEN: [(i64, &[u8]); 12] = [
+    (-1, b"\x02\x01\xff"),
+    (127, b"\x02\x01\x7f"),
+    (200, b"\x02\x02\x00\xc8"),
+    (-129, b"\x02\x02\xff\x7f"),
+    (32768, b"\x02\x03\x00\x80\x00"),
+    (8388607, b"\x02\x03\x7f\xff\xff"),
+    (8388608, b"\x02\x04\x00\x80\x00\x00"),
+    (-2147483648, b"\x02\x04\x80\x00\x00\x00"),
+    (2147483648, b"\x02\x05\x00\x00\x80\x00\x00\x00"),
+    (-140737488355328, b"\x02\x05\x80\x00\x00\x00\x00\x00"),
+    (140737488355328, b"\x02\x06\x00\x00\x80\x00\x00\x00\x00\x00"),
+    (i64::MIN, b"\x02\x06\x80\x00\x00\x00\x00\x00\x00\x00"),
+];
+
+fn expect_written(rt: &impl Abort, alloc: Global, case: &(i64, &[u8])) -> Result<(), AllocError> {
+    let (number, wanted) = *case;
+    let mut values = Vec::new(alloc);
+    values.push(Value::Int(number))?;
+    let bytes = encode(alloc, &Values::new(values), None)?;
+    assert!(rt; bytes.as_slice() == wanted, "{number}");
+    Ok(())
+}
+
+#[test]
+fn numbers_are_written(rt: HostRuntime) -> Result<(), Fail> {
+    for case in &WRITTEN {
+        expect_written(&rt, rt.alloc(), case)?;
+    }
+    Ok(())
+}
+
+// 126 serial types of one byte and one byte for the length are 127, which that byte spells; with one
+// type more the length takes two.
+#[test]
+fn long_header(rt: HostRuntime) -> Result<(), Fail> {
+    let mut values = Vec::new(rt.alloc());
+    for _ in 0..126 {
+        values.push(Value::Null)?;
+    }
+    let most = Values::new(values);
+    assert_eq!(rt; encoded_length(&most, None), 127);
+    let mut values = most.into_vec();
+    values.push(Value::Null)?;
+    let more = Values::new(values);
+    assert_eq!(rt; encoded_length(&more, None), 129);
+    let bytes = encode(rt.alloc(), &more, None)?;
+    assert!(rt; bytes.as_slice().starts_with(b"\x81\x01\x00"));
+    assert_eq!(rt; bytes.as_slice().len(), 129);
+    Ok(())
 }

@@ -1,5 +1,6 @@
-use spe_format::{Kind, PageCells, PageFault, local_size, read_page};
+use spe_format::{Kind, PageCells, PageFault, legal_is_writable, local_size, put_page, read_page};
 use std::alloc::{AllocError, Global};
+use std::process::Abort;
 use std::test::Fail;
 
 /// A page of so many bytes, zero but for these at its front and these at its end.
@@ -141,3 +142,88 @@ fn local(rt: HostRuntime) {
         assert_eq!(rt; local_size(Kind::TableLeaf, *payload, 512), *size);
     }
 }
+
+/// What a page of 512 bytes holds, written to one of other bytes.
+fn rewritten(alloc: Global, page: &[u8]) -> Result<[u8; 512], PageFault> {
+    let mut out = [0x55; 512];
+    if page.len() != 512 {
+        return Err(PageFault::Memory);
+    }
+    let cells = match read_page(alloc, page, 0, 512) {
+        Ok(cells) => cells,
+        Err(fault) => return Err(fault),
+    };
+    legal_is_writable(&cells, page, 0, 512);
+    put_page(&cells, &mut out, 0, 512);
+    Ok(out)
+}
+
+fn expect_same(
+    rt: &impl Abort,
+    alloc: Global,
+    case: &(&[u8], &[u8], Kind, usize, u32),
+) -> Result<(), PageFault> {
+    let (front, end, _, _, _) = *case;
+    let page = page_of(alloc, 512, front, end)?;
+    let out = rewritten(alloc, &page)?;
+    assert!(rt; out.as_slice() == page.as_slice());
+    Ok(())
+}
+
+// Each page of the table is in the one written form.
+#[test]
+fn put(rt: HostRuntime) -> Result<(), Fail> {
+    for case in &KINDS {
+        expect_same(&rt, rt.alloc(), case)?;
+    }
+    Ok(())
+}
+
+// Cells in another order, with a gap between, behind a header that counts fragments.
+#[test]
+fn put_in_order(rt: HostRuntime) -> Result<(), Fail> {
+    let loose = b"\x0d\x00\x00\x00\x02\x01\xf5\x03\x01\xf5\x01\xfc";
+    let cells = b"\x02\x01\x01\x08\x00\x00\x00\x02\x02\x01\x09";
+    let page = page_of(rt.alloc(), 512, loose, cells)?;
+    let out = rewritten(rt.alloc(), &page)?;
+    let front = b"\x0d\x00\x00\x00\x02\x01\xf8\x00\x01\xfc\x01\xf8";
+    let end = b"\x02\x02\x01\x09\x02\x01\x01\x08";
+    let wanted = page_of(rt.alloc(), 512, front, end)?;
+    assert!(rt; out.as_slice() == wanted.as_slice());
+    Ok(())
+}
+
+#[test]
+fn put_empty_leaf_of_the_largest_page(rt: HostRuntime) -> Result<(), Fail> {
+    let mut page = page_of(rt.alloc(), 65536, b"\x0d", b"\x01")?;
+    if page.len() == 65536 {
+        let cells = read_page(rt.alloc(), &page, 0, 65536)?;
+        legal_is_writable(&cells, &page, 0, 65536);
+        let fits = put_page(&cells, &mut page, 0, 65536);
+        assert!(rt; fits);
+    }
+    assert!(rt; page.starts_with(b"\x0d\x00\x00\x00\x00\x00\x00\x00"));
+    assert!(rt; page.iter().skip(8).all(|byte| *byte == 0));
+    Ok(())
+}
+
+// Page 1 keeps its first hundred bytes, and a page its reserved ones.
+#[test]
+fn put_keeps_what_is_around(rt: HostRuntime) -> Result<(), Fail> {
+    let leaf = page_of(rt.alloc(), 512, KEPT_FRONT, KEPT_END)?;
+    let mut page = [0x55; 520];
+    if leaf.len() == 512 {
+        let cells = read_page(rt.alloc(), &leaf, 0, 512)?;
+        legal_is_writable(&cells, &leaf, 0, 512);
+        let fits = put_page(&cells, &mut page, 100, 512);
+        assert!(rt; fits);
+    }
+    assert!(rt; page.iter().take(100).all(|byte| *byte == 0x55));
+    assert!(rt; &page[100..110] == b"\x0d\x00\x00\x00\x01\x01\xfc\x00\x01\xfc".as_slice());
+    assert!(rt; &page[508..] == b"\x02\x01\x01\x08\x55\x55\x55\x55\x55\x55\x55\x55".as_slice());
+    Ok(())
+}
+
+const KEPT_FRONT: &[u8] = b"\x0d\x00\x00\x00\x01\x01\xfc\x00\x01\xfc";
+
+const KEPT_END: &[u8] = b"\x02\x01\x01\x08";
