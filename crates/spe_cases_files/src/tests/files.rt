@@ -243,5 +243,5 @@ fn puts(rt: HostRuntime) {
     assert!(rt; sink.put(&line) == Ok(70));
     assert!(rt; sink.put(b"\n") == Ok(1));
     assert!(rt; sink.head().len() == 64);
-    assert!(rt; sink.head()[60..] == line[..4]);
+    assert!(rt; sink.head().ends_with(b"...."));
 }
