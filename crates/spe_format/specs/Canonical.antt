@@ -1,6 +1,6 @@
--- The one form in which a b-tree page is written ("B-tree Pages" in SQLite's Database File Format). It has no freeblock
--- and no fragment: the first cell ends at the end of the usable bytes, each next one ends where the one before begins,
--- and the bytes between the array of offsets and the cells are zero. That this is the only form written is this
+-- The one form in which a b-tree page is written ("B-tree Pages" in SQLite's Database File Format). Its
+-- cells stand behind one another at the end of the usable bytes, the first of them last, with no gap among them. What lies
+-- between the array of offsets and the cells is zeros, so nothing is left for freeblocks or fragments. That this is the only form written is this
 -- project's own rule.
 use Rattle.std.specs.Prelude.{◌≡◌, ℕ, ◌+◌, ◌-◌, ◌*◌, ◌<◌, ◌≤◌, ◌^◌, pos, Bool, true, false, List, [], ◌∷◌, ◌++◌, length, take, drop, replicate, FitsSigned, ◌==◌, nat_le, if◌then◌else◌}
 use Rattle.std.specs.Int.{w64, cast_unsigned}

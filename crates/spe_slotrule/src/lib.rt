@@ -4,8 +4,8 @@
 //! seats of the table know. Each number that was drawn stands in one view. A reader bit or a writer
 //! is set exactly where its id lists the word, a writer has no reader beside it but itself, a pin is
 //! set exactly where the store lists it and stands under a lock of its id. What any session or note
-//! has seen begins the store's list of commits, a session's own list is the entries with its number,
-//! and nobody was told of more commits, faults or another stop than the store has. Each kind of step
+//! has seen begins the store's list of commits, of which a session's own list has those that carry its
+//! number, and nobody was told of more commits, faults or another stop than the store has. Each kind of step
 //! on the table keeps the rule, so it holds between any two steps.
 #![tactic(auto)]
 

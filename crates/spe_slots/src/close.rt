@@ -13,8 +13,8 @@ use std::marker::Brand;
 
 impl<E> Slots<E> {
     /// Takes the table apart, where all sessions that were ever drawn are handed in. What each has
-    /// seen begins the store's list, its own list is the entries with its number, and no entry has
-    /// another number.
+    /// seen begins the store's list, its own list has those commits of the store's list that carry its
+    /// number, and each commit carries the number of one of these sessions.
     pub fn close(self, store: StoreSeat<E>, maker: Maker<E>, sessions: Sessions<E>)
         requires table { (store.table ≡ self.table) × (maker.table ≡ self.table) }
         requires seated { All (λ s. s.table ≡ self.table) sessions }
