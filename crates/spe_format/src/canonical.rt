@@ -127,7 +127,8 @@ fn chain_length(cell: &Cell) -> usize
     }
 }
 
-fn cell_length(kind: Kind, cell: &Cell) -> usize
+/// How many bytes a cell takes on a page of this kind, its offset apart.
+pub fn cell_length(kind: Kind, cell: &Cell) -> usize
     ensures { result ≡ length (cell_bytes kind cell.now) }
 {
     left_length(kind, cell)

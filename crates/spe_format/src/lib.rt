@@ -13,7 +13,7 @@ mod splice;
 mod varint;
 mod view;
 
-pub use canonical::put_page;
+pub use canonical::{cell_length, put_page};
 pub use cell::Parts;
 pub use kind::local_size;
 pub use page::{legal_is_writable, read_page};

@@ -1,7 +1,8 @@
 -- The header of a database file ("The Database Header" in SQLite's Database File Format): what it names, and the faults
 -- that it may have. The limits on page size, reserved bytes and encoding are this project's own.
-use Rattle.std.specs.Prelude.{ℕ, ◌+◌, ◌/◌, ◌≤◌, max, List, [], ◌∷◌, length, slice_index, Bool, not, ◌==◌, ◌&&◌, ◌||◌, nat_lt, nat_eq, if◌then◌else◌, Option, Some, None, Result, Ok, Err}
+use Rattle.std.specs.Prelude.{ℕ, ◌≡◌, ◌+◌, ◌/◌, ◌≤◌, max, List, [], ◌∷◌, ◌++◌, take, drop, length, slice_index, IsOk, Bool, not, ◌==◌, ◌&&◌, ◌||◌, nat_lt, nat_eq, if◌then◌else◌, Option, Some, None, Result, Ok, Err}
 use Rattle.std.specs.List.{find, starts_with}
+use Rattle.byteorder.specs.Endian.{big_bytes}
 use Rattle.spe_model.specs.declared.header.Header.{Header}
 use Rattle.spe_model.specs.declared.header.HeaderFault.{HeaderFault}
 use Rattle.spe_model.specs.declared.header.HeaderFault.TheVariants.{Short, NotADatabase, Wal, BadPageSize, AutoVacuum, Encoding, Reserved, SchemaFormat}
@@ -92,3 +93,43 @@ pub record IsSized (h : Header) : Type 0 where
   pub low : 512 ≤ h.page_size
   pub high : h.page_size ≤ 65536
   pub usable : h.reserved + 480 ≤ h.page_size
+
+-- the number at offset 16 that stands for a page size
+abbrev pub size_number : ℕ → ℕ
+size_number size = if size == 65536 then 1 else size
+
+-- some bytes at a place
+pub record Piece : Type 0 where
+  pub at : ℕ
+  pub bytes : List ℕ
+
+-- where the numbers of a header stand, and how they are written
+abbrev pub pieces_of : Header → List Piece
+pieces_of h =
+    record { at = 16; bytes = big_bytes 2 (size_number h.page_size) }
+    ∷ record { at = 20; bytes = big_bytes 1 h.reserved }
+    ∷ record { at = 24; bytes = big_bytes 4 h.change }
+    ∷ record { at = 28; bytes = big_bytes 4 h.pages }
+    ∷ record { at = 32; bytes = big_bytes 4 h.first_free }
+    ∷ record { at = 36; bytes = big_bytes 4 h.free_count }
+    ∷ record { at = 40; bytes = big_bytes 4 h.cookie }
+    ∷ record { at = 44; bytes = big_bytes 4 h.schema_format }
+    ∷ record { at = 56; bytes = big_bytes 4 h.encoding }
+    ∷ record { at = 92; bytes = big_bytes 4 h.valid_for }
+    ∷ []
+
+-- a page with other bytes at a place, and with those of several pieces
+abbrev pub with_bytes : (at : ℕ) → List ℕ → List ℕ → List ℕ
+with_bytes at bytes page = take at page ++ bytes ++ drop (at + length bytes) page
+
+abbrev pub with_pieces : List Piece → List ℕ → List ℕ
+with_pieces [] page = page
+with_pieces (piece ∷ pieces) page = with_pieces pieces (with_bytes piece.at piece.bytes page)
+
+-- page 1 that names this header, and has all its other bytes as before
+unfoldable pub with_header : Header → List ℕ → List ℕ
+with_header h page = with_pieces (pieces_of h) page
+
+-- where at least the first hundred bytes of page 1 have a legal header, it reads as this one
+abbrev pub ReadsBack : Header → List ℕ → Type 0
+ReadsBack h page = IsSized h → h.encoding ≡ 1 → (n : ℕ) → 100 ≤ n → IsOk (header_of (take n page)) → header_of (take n page) ≡ Ok h

@@ -1,9 +1,11 @@
 //! The first hundred bytes of a database file.
 
-ghost use Rattle.std.specs.Prelude.{◌≡◌, ◌≢◌, length};
-ghost use Rattle.spe_model.specs.Header.{page_count_of};
+ghost use Rattle.std.specs.Prelude.{◌≡◌, ◌≢◌, ◌+◌, ◌<◌, ◌≤◌, length};
+ghost use Rattle.byteorder.specs.Endian.{big_bytes};
+ghost use Rattle.spe_model.specs.Header.{page_count_of, size_number, with_bytes};
 
 use crate::bytes::{u16_of, u32_of};
+use byteorder::{BigEndian, ByteOrder};
 use thiserror::Error;
 
 /// What the header of a database file names.
@@ -67,7 +69,7 @@ const MAGIC: &[u8; 16] = b"SQLite format 3\0";
 
 impl Header {
     ghost use Rattle.std.specs.Prelude.{◌≡◌, ◌≤◌, length, true, IsTrue, IfOk, OnOk};
-    ghost use Rattle.spe_model.specs.Header.{is_size_valid, IsSized, header_of, is_database, is_wal, is_page_size, front_fault_of, node_of, page_size_at, unless};
+    ghost use Rattle.spe_model.specs.Header.{ReadsBack, with_header, is_size_valid, IsSized, header_of, is_database, is_wal, is_page_size, front_fault_of, node_of, page_size_at, unless};
 
     #[tactic(auto, unfolding(crate::specs::Header::is_database))]
     fn is_database(bytes: &[u8]) -> bool
@@ -172,6 +174,28 @@ impl Header {
         })
     }
 
+    /// Writes what the header names into page 1, and changes no other byte.
+    ///
+    /// Each number stands at its place in "The Database Header" of SQLite's Database File Format; a page
+    /// size of 65536 is written as 1.
+    pub fn put(&self, page: &mut [u8])
+        requires { 100 ≤ length page.old }
+        ensures bytes { page.new ≡ with_header self.now page.old }
+        ensures reads_back { ReadsBack self.now page.new }
+    {
+        let size = size_number(self.page_size);
+        put_bytes(page, 16, &[(size / 256 % 256) as u8, (size % 256) as u8]);
+        put_u8(page, 20, self.reserved);
+        put_u32(page, 24, self.change);
+        put_u32(page, 28, self.pages);
+        put_u32(page, 32, self.first_free);
+        put_u32(page, 36, self.free_count);
+        put_u32(page, 40, self.cookie);
+        put_u32(page, 44, self.schema_format);
+        put_u32(page, 56, self.encoding);
+        put_u32(page, 92, self.valid_for);
+    }
+
     /// Whether the size in pages that the header names counts.
     pub fn is_size_valid(&self) -> bool
         ensures { result ≡ is_size_valid self.now }
@@ -189,6 +213,42 @@ impl Header {
             None
         }
     }
+}
+
+fn put_bytes(page: &mut [u8], at: usize, bytes: &[u8])
+    requires { at + length bytes.now ≤ length page.old }
+    ensures bytes { page.new ≡ with_bytes at bytes.now page.old }
+    ensures len { length page.new ≡ length page.old }
+{
+    let end = at + bytes.len();
+    page[at..end].copy_from_slice(bytes);
+}
+
+// The number at offset 16 that stands for a page size.
+fn size_number(size: u32) -> u32
+    ensures { result ≡ size_number size }
+{
+    if size == 65536 { 1 } else { size }
+}
+
+fn put_u8(page: &mut [u8], at: usize, number: u8)
+    requires { at + 1 ≤ length page.old }
+    ensures bytes { page.new ≡ with_bytes at (big_bytes 1 number) page.old }
+    ensures len { length page.new ≡ length page.old }
+    ensures small { number < 256 }
+{
+    put_bytes(page, at, &[number]);
+}
+
+fn put_u32(page: &mut [u8], at: usize, number: u32)
+    requires { at + 4 ≤ length page.old }
+    ensures bytes { page.new ≡ with_bytes at (big_bytes 4 number) page.old }
+    ensures len { length page.new ≡ length page.old }
+    ensures small { number < 4294967296 }
+{
+    let mut bytes = [0; 4];
+    BigEndian::write_u32(&mut bytes, number);
+    put_bytes(page, at, &bytes);
 }
 
 /// How many pages a file of `file_bytes` bytes with this header has: what the header names where
