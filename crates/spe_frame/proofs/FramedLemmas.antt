@@ -29,7 +29,7 @@ few_again n m limit size size' bound same few most = ⊎_elim
     bound
 
 -- a page that names a node names a page other than 0
-some_node : (n m : ℕ) → (not (n == 0)) ≡ true → 1 ≤ n
+pub some_node : (n m : ℕ) → (not (n == 0)) ≡ true → 1 ≤ n
 some_node zero m is = absurd cc
 some_node (suc n) m is = omega arith
 
@@ -43,7 +43,7 @@ first_held g s pages own roots trees forest first =
     omega (arith, first, times-append 1 own named, times-append 1 own all, first_count (g.used s) a roots trees forest.grown)
 
 -- the page that page 1 names for the free lists stays
-list_other : {P : Type 0} (g : Ghosts P) (s : P) (pages : Paging) (own : List ℕ) (roots : List Root) (trees : List Tree)
+pub list_other : {P : Type 0} (g : Ghosts P) (s : P) (pages : Paging) (own : List ℕ) (roots : List Root) (trees : List Tree)
     → IsReady g s pages → 1 ≤ list_in (sight g s pages) → Forest g s pages own roots trees → IsOthers g s pages own (list_in (sight g s pages))
 list_other g s pages own roots trees ready some forest =
     let list = list_in (sight g s pages) in
@@ -52,7 +52,7 @@ list_other g s pages own roots trees ready some forest =
       lacks = omega (arith, forest.held.unnamed, times-append list own (flat_map (pages_of_tree (g.used s) (sight g s pages)) trees));
     }
 
-list_not_first : {P : Type 0} (g : Ghosts P) (s : P) (pages : Paging) (own : List ℕ) (roots : List Root) (trees : List Tree)
+pub list_not_first : {P : Type 0} (g : Ghosts P) (s : P) (pages : Paging) (own : List ℕ) (roots : List Root) (trees : List Tree)
     → Forest g s pages own roots trees → HaveFirst own roots → list_in (sight g s pages) ≢ 1
 list_not_first g s pages own roots trees forest first is =
     let all = own ++ flat_map (pages_of_tree (g.used s) (sight g s pages)) trees in

@@ -1,0 +1,5 @@
+pub mod EveryLemmas
+pub mod TableLemmas
+pub mod KeptLemmas
+pub mod ObjectLemmas
+pub mod ChangeLemmas
