@@ -7,3 +7,5 @@ pub mod WritableLemmas
 pub mod PageLemmas
 pub mod ViewLemmas
 pub mod LayoutLemmas
+pub mod LegalLemmas
+pub mod OrderLemmas

@@ -1,5 +1,7 @@
 pub mod Answers
 pub mod Canonical
 pub mod Layout
+pub mod Legal
+pub mod Order
 pub mod Spelling
 pub mod View

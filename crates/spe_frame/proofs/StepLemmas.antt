@@ -15,6 +15,7 @@ use Rattle.spe_space.specs.Outcome.{Fits, FitsGet, FitsPut, IsInside, IsSure}
 use Rattle.spe_space.specs.Space.{Allots, FrontStays, HandsOut, HandsOutNew, IsForAlloc, IsForFree, IsNext}
 use Rattle.spe_space.proofs.FrontLemmas.{counters_recounted, number_alike, number_recounted, u32_at-take}
 use Rattle.spe_frame.specs.Times.{AreSingle, HoldsOf, Lacks, times}
+use Rattle.spe_frame.specs.Laws.{ReadsShift}
 use Rattle.spe_frame.specs.Held.{AreHeld, HasHead, IsAtHand, IsCounted, IsLikely, IsOthers, IsReady, IsUsed, KeepsBody, KeepsHead, KeepsSizes, Puts, Shifts, Spares}
 use Rattle.spe_frame.proofs.HeadLemmas.{head_alike, recounted_keeps, take_alike}
 use Rattle.spe_frame.proofs.HeldLemmas.{list_same}
@@ -458,9 +459,9 @@ put_shifts g old new pages page bytes puts seen kept ready head free stands =
     }
 
 -- a page is only given
-pub get_shifts : {P : Type 0} (g : Ghosts P) (old new : P) (pages : Paging) (page : ℕ) → ((n : ℕ) → n ≢ page → g.seen new n ≡ g.seen old n) → Reads g old new
-    → g.stands new pages → IsReady g old pages → Shifts g old new pages (page ∷ []) (page ∷ []) 0
-get_shifts g old new pages page seen kept stands ready =
+pub gets_shift : {P : Type 0} (g : Ghosts P) (old new : P) (pages : Paging) (own : List ℕ) → ((n : ℕ) → Lacks own n → g.seen new n ≡ g.seen old n) → Reads g old new
+    → g.stands new pages → IsReady g old pages → Shifts g old new pages own own 0
+gets_shift g old new pages own seen kept stands ready =
     let laid = kept.laid in
     let free = kept.free in
     let each : (n : ℕ) → g.laid new n ≡ g.laid old n = λ n. ap (λ (put : ℕ → Option (List ℕ)). put n) laid in
@@ -472,7 +473,7 @@ get_shifts g old new pages page seen kept stands ready =
     let again : (n : ℕ) → IsUsed g old pages n → IsUsed g new pages n = λ n used. record { low = used.low; high = omega (arith, used.high, number); taken = freed n ∙ used.taken } in
     record {
       spares = record {
-        seen = λ n other not_first. seen n (other_one page n other.lacks);
+        seen = λ n other not_first. seen n other.lacks;
         laid = λ n other not_first. each n;
         head = head;
         body = λ lacks. body_same (front_of g old pages) (front_of g new pages) same;
@@ -483,9 +484,21 @@ get_shifts g old new pages page seen kept stands ready =
       };
       others = λ n other. record { used = again n other.used; lacks = other.lacks };
       front = λ lacks. lacks;
-      held = λ held. record { single = held.single; used = λ n some. again n (held.used n some); unnamed = ap (λ (n : ℕ). times n (page ∷ [])) named ∙ held.unnamed };
+      held = λ held. record { single = held.single; used = λ n some. again n (held.used n some); unnamed = ap (λ (n : ℕ). times n own) named ∙ held.unnamed };
       ready = ready_again g old new pages ready head stands (omega (arith, ap length same, ready.long)) (omega (arith, number)) (freed (list_in (sight g old pages)) ∙ ready.taken);
       more = omega (arith, number);
-      found = λ n here. hand_same g old new pages (page ∷ []) n (freed n) here;
+      found = λ n here. hand_same g old new pages own n (freed n) here;
       added = λ n above under. absurd (omega (arith, above, under, number));
     }
+
+pub get_shifts : {P : Type 0} (g : Ghosts P) (old new : P) (pages : Paging) (page : ℕ) → ((n : ℕ) → n ≢ page → g.seen new n ≡ g.seen old n) → Reads g old new
+    → g.stands new pages → IsReady g old pages → Shifts g old new pages (page ∷ []) (page ∷ []) 0
+get_shifts g old new pages page seen kept stands ready =
+    gets_shift g old new pages (page ∷ []) (λ n lacks. seen n (other_one page n lacks)) kept stands ready
+
+-- the same of a call that says which pages it got
+pub reads_shift : {P : Type 0} (g : Ghosts P) → ReadsShift g
+reads_shift g old new pages own agrees ready kept seen =
+    gets_shift g old new pages own
+    (λ n lacks. ⊎_elim (λ (same : g.seen new n ≡ g.seen old n). same) (λ (some : 0 < times n own). absurd (omega (arith, some, lacks))) (seen n))
+    kept (kept.stands pages agrees ready.stands) ready

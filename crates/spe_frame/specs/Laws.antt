@@ -1,18 +1,23 @@
 -- Laws of changes: they follow one another, and they leave all other trees as they are.
-use Rattle.std.specs.Prelude.{◌≡◌, ℕ, ◌+◌, ◌<◌, ◌≤◌, List, [], ◌∷◌, ◌++◌, map}
+use Rattle.std.specs.Prelude.{◌≡◌, ◌⊎◌, ℕ, ◌+◌, ◌<◌, ◌≤◌, List, [], ◌∷◌, ◌++◌, map}
 use Rattle.std.specs.List.{flat_map}
-use Rattle.spe_model.specs.Paging.{Paging}
+use Rattle.spe_model.specs.Paging.{Agrees, Paging}
 use Rattle.spe_model.specs.Served.{AreGrown, Root}
 use Rattle.spe_model.specs.Standing.{Tree, pages_of_tree}
 use Rattle.spe_model.specs.Tree.{tree_rows}
 use Rattle.spe_space.specs.declared.pages.Pages.{Ghosts}
-use Rattle.spe_space.specs.Calls.{sight}
+use Rattle.spe_space.specs.Calls.{Reads, sight}
 use Rattle.spe_frame.specs.Times.{AreSame, times}
 use Rattle.spe_frame.specs.Held.{AreHeld, IsReady, Shifts, Spares}
 
 -- nothing changes
 abbrev pub ShiftsNone : {P : Type 0} (g : Ghosts P) → Type 0
 ShiftsNone {P = P} g = (s : P) (pages : Paging) (own : List ℕ) → IsReady g s pages → Shifts g s s pages own own 0
+
+-- gets change nothing, where each page that they give is one of those at hand
+abbrev pub ReadsShift : {P : Type 0} (g : Ghosts P) → Type 0
+ReadsShift {P = P} g = (old new : P) (pages : Paging) (own : List ℕ) → Agrees pages (g.seen new) → IsReady g old pages → Reads g old new
+    → ((n : ℕ) → (g.seen new n ≡ g.seen old n) ⊎ (0 < times n own)) → Shifts g old new pages own own 0
 
 -- changes after changes
 abbrev pub ShiftsBoth : {P : Type 0} (g : Ghosts P) → Type 0

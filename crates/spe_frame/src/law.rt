@@ -3,15 +3,17 @@
 ghost use Rattle.spe_frame.specs.Chain.{ChainStays};
 ghost use Rattle.spe_frame.specs.Framed.{FrameIsFramed, FrameStays, FramedIsFrame};
 ghost use Rattle.spe_frame.specs.Header.{HeaderStays, ValidIsCounted};
-ghost use Rattle.spe_frame.specs.Laws.{ForestStays, HeldApart, HeldNone, ShiftsAlike, ShiftsBeside, ShiftsBoth, ShiftsNone, SparesAlike, SparesBeside, SparesBoth, SparesMore};
+ghost use Rattle.spe_frame.specs.Laws.{ForestStays, HeldApart, HeldNone, ReadsShift, ShiftsAlike, ShiftsBeside, ShiftsBoth, ShiftsNone, SparesAlike, SparesBeside, SparesBoth, SparesMore};
 ghost use Rattle.spe_frame.specs.Pick.{PicksTree, PlantsTree};
 
 use spe_space::Pages;
 
-/// Where nothing changes, nothing is changed. Changes follow one another, and after them a call that fails; they are the same beside more pages,
-/// in any order of them, and with room for more allocations.
+/// Where nothing changes, nothing is changed, and gets of pages at hand are no change. Changes follow one
+/// another, and after them a call that fails; they are the same beside more pages, in any order of them, and
+/// with room for more allocations.
 pub fn shifts_law<S: Pages>(_space: &S)
     ensures idle { ShiftsNone S.Pages }
+    ensures reads { ReadsShift S.Pages }
     ensures both { ShiftsBoth S.Pages }
     ensures spares { SparesBoth S.Pages }
     ensures beside { ShiftsBeside S.Pages }

@@ -66,6 +66,14 @@ impl Cells {
     {
         self.inner.as_slice()
     }
+
+    /// The cells as a vector.
+    pub fn into_vec(self) -> Vec<Cell>
+        ensures { result.items ≡ self }
+    {
+        let Cells { inner } = self;
+        inner
+    }
 }
 
 /// What a b-tree page holds.

@@ -1,3 +1,4 @@
+pub mod KeysLemmas
 pub mod EveryLemmas
 pub mod TableLemmas
 pub mod KeptLemmas

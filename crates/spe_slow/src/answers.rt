@@ -35,8 +35,9 @@ fn select(
     Ok(Reply::Rows(Rows::new(found)))
 }
 
-// The rowid of a new row to which none is given, by the largest.
-fn rowid_after(largest: Option<i64>) -> Result<i64, Refusal>
+/// The rowid of a new row to which none is given, by the largest: the next one, or 1 where there is no
+/// row. There is none after the largest that 64 bits hold.
+pub fn rowid_after(largest: Option<i64>) -> Result<i64, Refusal>
     ensures { result ≡ rowid_after largest }
 {
     match largest {

@@ -13,6 +13,7 @@ mod refused;
 mod rows;
 mod stored;
 
+pub use answers::rowid_after;
 pub use assigned::{by_column, given_rowid, given_to};
 pub use conditions::is_chosen;
 pub use database::SlowDb;

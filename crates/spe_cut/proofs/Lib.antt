@@ -1,0 +1,14 @@
+pub mod FanLemmas
+pub mod KeptLemmas
+pub mod OrderLemmas
+pub mod RowLemmas
+pub mod ChildLemmas
+pub mod HolderLemmas
+pub mod SplitLemmas
+pub mod LeafLemmas
+pub mod DepthLemmas
+pub mod SizeLemmas
+pub mod NeedLemmas
+pub mod PartLemmas
+pub mod RoomLemmas
+pub mod LoopLemmas

@@ -1,0 +1,52 @@
+//! Laws of trees in which a child became a run of children.
+
+ghost use Rattle.spe_cut.specs.Child.{AboveCells, ChildBecomesRun, ChildOfRun, RowOfChild};
+ghost use Rattle.spe_cut.specs.Depth.{FilledTreeIsWide, RootStaysLow, SingleTreeIsWide};
+ghost use Rattle.spe_cut.specs.Leaf.{PartsAreRun};
+ghost use Rattle.spe_cut.specs.Rows.{CellAddsRow, KeptRowsStay, RowIsPut, RowIsThere, RowsAscend, RunAscends};
+ghost use Rattle.spe_cut.specs.Run.{HolderOfRun, KeptRunStays, RunOfHolder};
+ghost use Rattle.spe_cut.specs.Split.{HalvesArePair, RunIsCut};
+
+/// A page that holds a run is a tree one level higher, and such a tree's root holds one. A run whose
+/// pages keep their bytes stays as it is, and its keys ascend.
+pub fn root_law()
+    ensures holder { HolderOfRun }
+    ensures held { RunOfHolder }
+    ensures stays { KeptRunStays }
+    ensures ascends { RunAscends }
+{}
+
+/// A child is a tree among others. Where it becomes a run, so do all children with it.
+pub fn child_law()
+    ensures child { ChildOfRun }
+    ensures row { RowOfChild }
+    ensures above { AboveCells }
+    ensures grows { ChildBecomesRun }
+{}
+
+/// A run is cut at a cell into halves, and two pages that hold these are a run one level higher.
+pub fn split_law()
+    ensures halves { RunIsCut }
+    ensures pair { HalvesArePair }
+{}
+
+/// Leaves that hold the parts of some rows are a run.
+pub fn leaf_law()
+    ensures parts { PartsAreRun }
+{}
+
+/// One row more: in the cells of a leaf, and in all rows where some of them have it.
+pub fn row_law()
+    ensures added { CellAddsRow }
+    ensures put { RowIsPut }
+    ensures there { RowIsThere }
+    ensures stay { KeptRowsStay }
+    ensures ascends { RowsAscend }
+{}
+
+/// A tree with cells on its interior pages takes many pages, so it never gets too deep.
+pub fn depth_law()
+    ensures filled { FilledTreeIsWide }
+    ensures single { SingleTreeIsWide }
+    ensures low { RootStaysLow }
+{}

@@ -1,0 +1,12 @@
+//! The pure half of changes in the trees of tables: how the cells of a page are cut over pages, and
+//! what a tree is after one child became a run of children.
+//!
+//! The laws are the contracts of functions that do nothing, over any pages before and after. The
+//! code knows no pages but the cells that it is given.
+#![tactic(auto)]
+
+mod law;
+mod parts;
+
+pub use law::{child_law, depth_law, leaf_law, root_law, row_law, split_law};
+pub use parts::{CellParts, Halves, interior_parts, leaf_parts, room_of, room_law};

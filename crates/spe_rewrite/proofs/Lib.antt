@@ -1,0 +1,10 @@
+mod LeftLemmas
+mod SaveLemmas
+mod PutLemmas
+mod StageLemmas
+mod TurnLemmas
+mod EndLemmas
+mod RecordLemmas
+mod LawLemmas
+mod ClauseLemmas
+mod MakeLemmas
