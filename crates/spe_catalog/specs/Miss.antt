@@ -10,9 +10,9 @@ Misses Unknown found = found ≡ None
 Misses Memory found = Unit {0}
 
 -- what was answered is what is found, unless memory ran out
-abbrev pub Finds : {X Y : Type 0} → (X → Y) → Result X Miss → Option Y → Type 0
-Finds view (Ok x) found = found ≡ Some (view x)
-Finds view (Err miss) found = Misses miss found
+abbrev pub FindsDeclared : {X Y : Type 0} → (X → Y) → Result X Miss → Option Y → Type 0
+FindsDeclared view (Ok x) found = found ≡ Some (view x)
+FindsDeclared view (Err miss) found = Misses miss found
 
 -- what a fault of the text makes of an answer
 abbrev pub of_sql : SqlKind → Miss

@@ -4,7 +4,7 @@ ghost use Rattle.std.specs.Prelude.{◌≡◌, ◌≤◌, codes, length};
 ghost use Rattle.std.specs.List.{prefix_len};
 ghost use Rattle.std.specs.Option.{option_map};
 ghost use Rattle.spe_model.specs.Definition.{is_name, is_only, is_word, is_rowid_type, name_at, type_at, column_at};
-ghost use Rattle.spe_catalog.specs.Miss.{Finds};
+ghost use Rattle.spe_catalog.specs.Miss.{FindsDeclared};
 
 use crate::affinity::affinity_of;
 use crate::constraint::said_at;
@@ -20,7 +20,7 @@ pub fn name_at<'a, 'b>(
     alloc: Global,
     tokens: &'a [Lexeme<'b>],
 ) -> Result<(Text, &'a [Lexeme<'b>]), Miss>
-    ensures { Finds (λ x. (x.0, x.1.now)) result (name_at tokens.now) }
+    ensures { FindsDeclared (λ x. (x.0, x.1.now)) result (name_at tokens.now) }
 {
     let [first, rest @ ..] = tokens else {
         return Err(Miss::Unknown);
@@ -78,7 +78,7 @@ pub fn column_at<'a, 'b>(
     alloc: Global,
     tokens: &'a [Lexeme<'b>],
 ) -> Result<(Column, bool, &'a [Lexeme<'b>]), Miss>
-    ensures { Finds (λ x. ((x.0, x.1), x.2.now)) result (column_at tokens.now) }
+    ensures { FindsDeclared (λ x. ((x.0, x.1), x.2.now)) result (column_at tokens.now) }
 {
     let (name, rest) = name_at(alloc, tokens)?;
     let Some((words, has_lengths, rest)) = type_at(rest) else {

@@ -3,7 +3,7 @@
 ghost use Rattle.std.specs.Prelude.{◌≡◌, [], None, IfOk, codes, is_some, length, vec_len};
 ghost use Rattle.std.specs.Option.{option_map};
 ghost use Rattle.spe_model.specs.Definition.{declaration_of, table_at, end_at, name_at, column_at, after, is_sign};
-ghost use Rattle.spe_catalog.specs.Miss.{Finds};
+ghost use Rattle.spe_catalog.specs.Miss.{FindsDeclared};
 ghost use Rattle.spe_catalog.specs.Columns.{NextAlias, PlacesAlias, all_columns};
 
 use crate::column::column_at;
@@ -45,7 +45,7 @@ fn is_end(tokens: &[Lexeme<'_>]) -> bool
 
 // Takes a column from the front, and says whether it is the rowid.
 fn take_column(alloc: Global, left: &mut Left<'_, '_>) -> Result<(Column, bool), Miss>
-    ensures { Finds (λ x. ((x.0, x.1), left.new)) result (column_at left.old) }
+    ensures { FindsDeclared (λ x. ((x.0, x.1), left.new)) result (column_at left.old) }
 {
     let (column, is_alias, rest) = column_at(alloc, left.tokens())?;
     left.set(rest);
@@ -54,7 +54,7 @@ fn take_column(alloc: Global, left: &mut Left<'_, '_>) -> Result<(Column, bool),
 
 // Takes a comma from the front.
 fn take_comma(left: &mut Left<'_, '_>) -> Result<(), Miss>
-    ensures { Finds (λ _. left.new) result (after (is_sign (codes ",")) left.old) }
+    ensures { FindsDeclared (λ _. left.new) result (after (is_sign (codes ",")) left.old) }
 {
     let Some(rest) = after_sign(b",", left.tokens()) else {
         return Err(Miss::Unknown);
@@ -65,7 +65,7 @@ fn take_comma(left: &mut Left<'_, '_>) -> Result<(), Miss>
 
 // The columns up to the parenthesis that ends the text, with commas between them.
 fn columns<'a, 'b>(alloc: Global, tokens: &'a [Lexeme<'b>]) -> Result<Declaration, Miss>
-    ensures { Finds (λ x. x) result (all_columns [] None (length tokens.now) tokens.now) }
+    ensures { FindsDeclared (λ x. x) result (all_columns [] None (length tokens.now) tokens.now) }
 {
     let mut columns = Vec::new(alloc);
     let mut alias = None;
@@ -103,7 +103,7 @@ fn after_name<'a, 'b>(tokens: &'a [Lexeme<'b>]) -> Option<&'a [Lexeme<'b>]>
 // What the tokens of a definition declare.
 #[tactic(auto, unfolding(spe_model::specs::Definition::table_at))]
 fn table_at(alloc: Global, tokens: &[Lexeme<'_>]) -> Result<Declaration, Miss>
-    ensures { Finds (λ x. x) result (table_at tokens.now) }
+    ensures { FindsDeclared (λ x. x) result (table_at tokens.now) }
 {
     let Some(rest) = after_word(b"CREATE", tokens) else {
         return Err(Miss::Unknown);
@@ -121,7 +121,7 @@ fn table_at(alloc: Global, tokens: &[Lexeme<'_>]) -> Result<Declaration, Miss>
 }
 
 fn declared(alloc: Global, text: &str) -> Result<Declaration, Miss>
-    ensures { Finds (λ x. x) result (declaration_of text.now) }
+    ensures { FindsDeclared (λ x. x) result (declaration_of text.now) }
 {
     let tokens = lexemes(alloc, text)?;
     table_at(alloc, tokens.as_slice())

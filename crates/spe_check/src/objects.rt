@@ -149,7 +149,7 @@ fn try_open<S: Pages>(
     ensures asks { AsksWithin met.old result }
 {
     let levels = tree_levels();
-    let mut rows = RecordRows::new(alloc, columns);
+    let mut rows = RecordRows::new(columns);
     let mut payload = Vec::new(alloc);
     match walk_table_from(
         alloc,

@@ -3,6 +3,7 @@
 ghost use Rattle.std.specs.Prelude.{◌≡◌, true, false, refl, IfOk, IfErr, Ok, length, nat_le};
 ghost use Rattle.std.proofs.lemmas.Bool.{true≢false};
 ghost use Rattle.spe_model.specs.Record.{record_of};
+ghost use Rattle.spe_model.specs.Verdict.{fits};
 ghost use Rattle.spe_check.specs.RecordRows.{no_outlook, record_outlook, TriesRecord};
 ghost use Rattle.spe_check.specs.Visitor.{IsOwn};
 
@@ -10,7 +11,7 @@ use crate::halt::Halt;
 use crate::rule::try_rule;
 use crate::visitor::RowVisitor;
 use spe_model::Values;
-use spe_record::{RecordFault, decode};
+use spe_record::{RecordFault, decode, value_count};
 use spe_space::SpaceFault;
 use std::alloc::Global;
 
@@ -40,25 +41,30 @@ pub fn try_record(alloc: Global, leaf: u32, columns: usize, payload: &[u8]) -> R
     }
 }
 
+// Whether a payload is a record with at most so many values. No value is made.
+fn is_record_of(columns: usize, payload: &[u8]) -> bool
+    ensures { result ≡ fits columns (record_of payload.now) }
+{
+    match value_count(payload) {
+        Ok(count) => count <= columns,
+        Err(_) => false,
+    }
+}
+
 /// Tries the records of a table with so many columns, and counts its rows.
 #[derive(Debug, Drop)]
 pub struct RecordRows {
-    alloc: Global,
     columns: usize,
     count: u64,
 }
 
 impl RecordRows {
     /// No row yet.
-    pub fn new(alloc: Global, columns: usize) -> RecordRows
+    pub fn new(columns: usize) -> RecordRows
         ensures columns { result.columns ≡ columns }
         ensures count { result.count ≡ 0 }
     {
-        RecordRows {
-            alloc,
-            columns,
-            count: 0,
-        }
+        RecordRows { columns, count: 0 }
     }
 
     /// How many rows there were, or the greatest number of 64 bits where there were more.
@@ -83,8 +89,8 @@ impl RowVisitor for RecordRows {
     }
 
     fn visit(&mut self, leaf: u32, _rowid: i64, payload: &[u8]) -> Result<(), Halt> {
-        match try_record(self.alloc, leaf, self.columns, payload) {
-            Ok(_values) => {
+        match try_rule(is_record_of(self.columns, payload), leaf, 8) {
+            Ok(()) => {
                 self.count = self.count.saturating_add(1);
                 Ok(())
             }

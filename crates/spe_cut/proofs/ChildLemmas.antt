@@ -1,17 +1,17 @@
 -- A child at a place becomes a run.
-use Rattle.std.proofs.Common.{◌≡◌, ℕ, suc, ℤ, ◌+◌, ◌<◌, ◌≤◌, ◌∙◌, List, [], ◌∷◌, ◌++◌, All, refl, sym, ap, arith}
+use Rattle.std.proofs.Common.{◌≡◌, ℕ, ℤ, ◌+◌, ◌<◌, ◌≤◌, ◌∙◌, List, [], ◌∷◌, ◌++◌, All, refl, ap, arith}
 use Rattle.std.proofs.lemmas.List.Elements.{All-head, All-nil, All-tail}
 use Rattle.spe_model.specs.declared.page.Cell.{Cell}
 use Rattle.spe_model.specs.Paging.{Paging}
 use Rattle.spe_model.specs.Served.{HasCells}
 use Rattle.spe_model.specs.Standing.{AreBelow, all_pages}
-use Rattle.spe_model.specs.Tree.{AreUnder, IsTree, fan, rank, row_at, tree_rows}
+use Rattle.spe_model.specs.Tree.{AreUnder, IsTree, fan, rank, tree_rows}
 use Rattle.spe_frame.specs.Times.{AreSame, times}
 use Rattle.spe_frame.proofs.TimesLemmas.{Each, each_from_holds, each_left, each_right, times-append}
 use Rattle.spe_frame.proofs.TreeLemmas.{IsKept, below_kept, fan_kept, under_kept}
-use Rattle.spe_cut.specs.Child.{AboveCells, ChildBecomesRun, ChildGrows, ChildOfRun, RowOfChild}
-use Rattle.spe_cut.specs.Rows.{AreHigher, AreLower, RowsBecome}
-use Rattle.spe_cut.specs.Run.{AreFilledBelow, IsOpen, IsRun, Place, Run, alone, back, bound_after, cells_before, front, high_at, inner, last, low_at, pages_beside, pages_in, rows_in, with_child, with_run}
+use Rattle.spe_cut.specs.Child.{AboveCells, ChildBecomesRun, ChildOfRun, RowOfChild}
+use Rattle.spe_cut.specs.Rows.{AreHigher, RowsBecome}
+use Rattle.spe_cut.specs.Run.{IsOpen, IsRun, Place, Run, back, bound_after, cells_before, front, high_at, inner, last, low_at, pages_beside, pages_in, rows_in, with_child, with_run}
 use Rattle.spe_cut.proofs.FanLemmas.{AreFront, AreLeft, Orders, all_left, below_end, below_followed, below_joined, below_parts, bound_above, fan_child, fan_run, under_end, under_followed, under_joined, under_parts}
 use Rattle.spe_cut.proofs.KeptLemmas.{child_filled, child_kept, child_pages, child_rows, filled_kept, front_kept, left_kept}
 use Rattle.spe_cut.proofs.OrderLemmas.{HasWithin, fan_within, front_lower, higher_of, tree_orders, tree_within}
@@ -162,12 +162,16 @@ child_becomes_run usable old new height low high place child run grows =
           (behind_kept K all T T' (child_kept usable old new height) high place behind parts.higher);
       rows = place_rows usable old height low high place child (rows_in usable new height run) _ grows.was
           (fan_run (tree_rows usable new height) place run
-          ∙ rw (left_kept K all rows (tree_rows usable new height) (child_rows usable old new height) (cells_before place) before,
-          back_kept K all rows (tree_rows usable new height) (child_rows usable old new height) place behind) refl);
+          ∙ rw (
+            left_kept K all rows (tree_rows usable new height) (child_rows usable old new height) (cells_before place) before,
+            back_kept K all rows (tree_rows usable new height) (child_rows usable old new height) place behind,
+          ) refl);
       pages_are = middle_first _ (front all place) (pages_in usable new height run) (back all place)
           (fan_run (all_pages usable new height) place run
-          ∙ rw (left_kept K all all (all_pages usable new height) (child_pages usable old new height) (cells_before place) before,
-          back_kept K all all (all_pages usable new height) (child_pages usable old new height) place behind) refl);
+          ∙ rw (
+            left_kept K all all (all_pages usable new height) (child_pages usable old new height) (cells_before place) before,
+            back_kept K all all (all_pages usable new height) (child_pages usable old new height) place behind,
+          ) refl);
       filled = λ were are.
           let parts = filled_parts F place child were in
           filled_joined F' place run (filled_kept K all F F' (child_filled usable old new height) (cells_before place) before parts.0) are

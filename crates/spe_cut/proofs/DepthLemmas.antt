@@ -1,18 +1,17 @@
 -- How many pages a tree takes at least.
-use Rattle.std.proofs.Common.{◌≡◌, ◌≢◌, ℕ, zero, suc, ◌+◌, ◌-◌, ◌*◌, ◌^◌, ◌<◌, ◌≤◌, ◌∙◌, ◌⊎◌, List, [], ◌∷◌, ◌++◌, length, true, false, refl, sym, ap, arith, inl, inr, length-append}
+use Rattle.std.proofs.Common.{◌≡◌, ◌≢◌, ℕ, zero, suc, ◌+◌, ◌-◌, ◌*◌, ◌^◌, ◌≤◌, ◌∙◌, List, [], ◌∷◌, ◌++◌, length, refl, sym, ap, arith, inl, inr, length-append}
 use Rattle.std.specs.Prelude.{◌==◌, if◌then◌else◌}
 use Rattle.std.specs.List.{flat_map}
 use Rattle.std.proofs.Math.Nat.{pow-suc, suc-mul}
 use Rattle.std.proofs.Math.Pow.{pow_mono}
-use Rattle.std.proofs.lemmas.Bool.{cases_Bool, cases_lt, eqb-true, eqb-false}
+use Rattle.std.proofs.lemmas.Bool.{cases_Bool, cases_lt}
 use Rattle.std.proofs.lemmas.Nat.{mul-le}
 use Rattle.spe_model.specs.declared.page.Cell.{Cell}
-use Rattle.spe_model.specs.Paging.{Paging}
 use Rattle.spe_model.specs.Served.{HasCells}
 use Rattle.spe_model.specs.Standing.{AreBelow, IsOneOf, all_pages, chain_pages}
 use Rattle.spe_model.specs.Tree.{fan, node_cells, node_right}
-use Rattle.spe_frame.specs.Times.{AreSingle, HoldsOf, Lacks, one_if, times}
-use Rattle.spe_frame.proofs.TimesLemmas.{here, same_or_not, there, times-append}
+use Rattle.spe_frame.specs.Times.{AreSingle, HoldsOf, Lacks, times}
+use Rattle.spe_frame.proofs.TimesLemmas.{here, times-append}
 use Rattle.spe_cut.specs.Depth.{FilledTreeIsWide, RootStaysLow, SingleTreeIsWide}
 
 -- what holds of joined lists holds of each
@@ -76,20 +75,20 @@ single_wide usable pages (suc height) page has single =
     let more = twice height in
     elim has.0 [
       | inl e ↦ (
-        let at = here 1 page (chains ++ fan own cells right) (sym e) in
-        let once = single 1 in
-        let lacks : Lacks (chains ++ fan own cells right) 1 = omega (arith, at, once) in
-        let least = 2 ^ (height + 1) - 1 in
-        let wide = fan_wide (HasCells usable pages height) (λ xs. Lacks xs 1) own least (lacks_parts 1) (λ p h l. let w = filled_wide usable pages height p h l in omega (arith, w))
-        cells right has.1 (lacks_parts 1 chains (fan own cells right) lacks).1 in
-        let one = mul-le 1 least (suc (length cells)) least (omega arith) (omega arith) in
-        let level : 2 ^ (height + 1) ≡ 2 ^ suc height = ap (λ (k : ℕ). 2 ^ k) (let e : height + 1 ≡ suc height = omega arith in e) in
-        omega (arith, wide, one, long, level))
+          let at = here 1 page (chains ++ fan own cells right) (sym e) in
+          let once = single 1 in
+          let lacks : Lacks (chains ++ fan own cells right) 1 = omega (arith, at, once) in
+          let least = 2 ^ (height + 1) - 1 in
+          let wide = fan_wide (HasCells usable pages height) (λ xs. Lacks xs 1) own least (lacks_parts 1) (λ p h l. let w = filled_wide usable pages height p h l in omega (arith, w))
+          cells right has.1 (lacks_parts 1 chains (fan own cells right) lacks).1 in
+          let one = mul-le 1 least (suc (length cells)) least (omega arith) (omega arith) in
+          let level : 2 ^ (height + 1) ≡ 2 ^ suc height = ap (λ (k : ℕ). 2 ^ k) (let e : height + 1 ≡ suc height = omega arith in e) in
+          omega (arith, wide, one, long, level))
       | inr some ↦ (
-        let wide = fan_wide (HasCells usable pages height) AreSingle own (2 ^ height) single_parts (λ p h s. single_wide usable pages height p h s)
-        cells right has.1 (below_root AreSingle page chains (fan own cells right) single_parts single) in
-        let two = mul-le 2 (2 ^ height) (suc (length cells)) (2 ^ height) (omega (arith, some)) (omega arith) in
-        omega (arith, wide, two, long, more))
+          let wide = fan_wide (HasCells usable pages height) AreSingle own (2 ^ height) single_parts (λ p h s. single_wide usable pages height p h s)
+          cells right has.1 (below_root AreSingle page chains (fan own cells right) single_parts single) in
+          let two = mul-le 2 (2 ^ height) (suc (length cells)) (2 ^ height) (omega (arith, some)) (omega arith) in
+          omega (arith, wide, two, long, more))
     ]
 
 -- the numbers but one of them

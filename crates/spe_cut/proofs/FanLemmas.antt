@@ -1,10 +1,10 @@
 -- Children of an interior page, cut at a place and joined again: for any trees, and for whatever each child has.
-use Rattle.std.proofs.Common.{◌≡◌, ℕ, suc, ◌+◌, ◌<◌, ◌≤◌, ◌∙◌, List, [], ◌∷◌, ◌++◌, refl, sym, ap, arith, append_assoc}
+use Rattle.std.proofs.Common.{◌≡◌, ℕ, ◌+◌, ◌<◌, ◌≤◌, ◌∙◌, List, [], ◌∷◌, ◌++◌, refl, sym, ap, arith, append_assoc}
 use Rattle.std.specs.List.{flat_map}
 use Rattle.spe_model.specs.declared.page.Cell.{Cell}
 use Rattle.spe_model.specs.Standing.{AreBelow}
 use Rattle.spe_model.specs.Tree.{AreUnder, fan, rank}
-use Rattle.spe_cut.specs.Run.{Place, Run, alone, back, bound_after, cells_before, front, high_at, inner, last, low_at, with_child, with_run}
+use Rattle.spe_cut.specs.Run.{Place, Run, back, bound_after, front, inner, last, with_child, with_run}
 
 -- what the children of some cells have, without a last child
 abbrev pub all_left : {X : Type 0} → (ℕ → List X) → List Cell → List X

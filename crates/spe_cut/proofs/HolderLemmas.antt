@@ -1,5 +1,5 @@
 -- A page that holds a run is the root of a tree.
-use Rattle.std.proofs.Common.{◌≡◌, ℕ, zero, suc, ◌+◌, ◌-◌, ◌<◌, ◌≤◌, ◌∙◌, ◌⊎◌, List, [], ◌∷◌, ◌++◌, length, Ok, Result, refl, sym, ap, subst, arith}
+use Rattle.std.proofs.Common.{◌≡◌, ℕ, suc, ◌+◌, ◌-◌, ◌≤◌, ◌∙◌, ◌⊎◌, List, [], ◌∷◌, ◌++◌, length, Ok, Result, refl, sym, ap, subst, arith}
 use Rattle.std.proofs.Math.Nat.{div-eq_of_lt}
 use Rattle.std.specs.List.{flat_map}
 use Rattle.spe_model.specs.declared.page.Cell.{Cell}
@@ -7,11 +7,11 @@ use Rattle.spe_model.specs.declared.page.Kind.{Kind}
 use Rattle.spe_model.specs.declared.page.Kind.TheVariants.{TableInterior}
 use Rattle.spe_model.specs.declared.page.PageCells.{PageCells}
 use Rattle.spe_model.specs.declared.page.PageFault.{PageFault}
-use Rattle.spe_model.specs.Chain.{link_room, links}
+use Rattle.spe_model.specs.Chain.{links}
 use Rattle.spe_model.specs.Paging.{Paging}
 use Rattle.spe_model.specs.Served.{HasCells}
 use Rattle.spe_model.specs.Standing.{AreBelow, all_pages, chain_pages, link_pages}
-use Rattle.spe_model.specs.Tree.{AreUnder, IsTree, cells_in, fan, node_cells, node_right, rest_of, right_in, tree_rows}
+use Rattle.spe_model.specs.Tree.{AreUnder, IsTree, cells_in, fan, rest_of, right_in, tree_rows}
 use Rattle.spe_format.specs.Canonical.{AreWritable}
 use Rattle.spe_cut.specs.Run.{HolderOfRun, HoldsRun, Run, RunOfHolder, pages_in}
 

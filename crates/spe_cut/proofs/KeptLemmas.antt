@@ -1,5 +1,5 @@
 -- What stays where pages keep their bytes.
-use Rattle.std.proofs.Common.{◌≡◌, ℕ, ◌+◌, List, [], ◌∷◌, ◌++◌, refl}
+use Rattle.std.proofs.Common.{◌≡◌, ℕ, ◌+◌, List, [], ◌∷◌, refl}
 use Rattle.std.specs.List.{flat_map}
 use Rattle.spe_model.specs.declared.page.Cell.{Cell}
 use Rattle.spe_model.specs.Paging.{Paging}

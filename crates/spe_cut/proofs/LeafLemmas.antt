@@ -1,5 +1,5 @@
 -- Leaves that hold the parts of some rows.
-use Rattle.std.proofs.Common.{◌≡◌, ℕ, suc, ℤ, ◌+◌, ◌<◌, ◌≤◌, ◌∙◌, List, [], ◌∷◌, ◌++◌, All, length, map, refl, sym, ap, subst, arith, append_assoc}
+use Rattle.std.proofs.Common.{◌≡◌, ℕ, ℤ, ◌+◌, ◌<◌, ◌≤◌, ◌∙◌, List, [], ◌∷◌, ◌++◌, length, map, refl, sym, ap, subst, arith, append_assoc}
 use Rattle.std.proofs.lemmas.Grind.{flat_map-append}
 use Rattle.std.proofs.lemmas.List.{map-append}
 use Rattle.std.proofs.lemmas.List.Elements.{All-head, All-tail}
@@ -12,7 +12,7 @@ use Rattle.spe_model.specs.Standing.{all_pages, chain_pages}
 use Rattle.spe_model.specs.Tree.{AreRows, IsTree, cells_in, payload_of, rank, rows_of, tree_rows}
 use Rattle.spe_frame.specs.Times.{AreSame, one_if, times}
 use Rattle.spe_frame.proofs.TimesLemmas.{times-append}
-use Rattle.spe_cut.specs.Leaf.{AreParts, HoldParts, IsLeaf, Leaf, PartsAreRun, last_key, leaves_cells, leaves_run}
+use Rattle.spe_cut.specs.Leaf.{IsLeaf, Leaf, PartsAreRun, last_key, leaves_cells, leaves_run}
 use Rattle.spe_cut.specs.Run.{pages_in, rows_in}
 use Rattle.spe_cut.proofs.HolderLemmas.{IsMade, Reading}
 

@@ -1,14 +1,13 @@
 -- How many bytes parts of some cells take.
-use Rattle.std.proofs.Common.{◌≡◌, ℕ, zero, suc, ◌+◌, ◌-◌, ◌*◌, ◌/◌, ◌<◌, ◌≤◌, ◌∙◌, ◌⊎◌, List, [], ◌∷◌, ◌++◌, length, take, drop, get_or, Option, None, Some, true, false, refl, sym, ap, subst, arith, inl, inr, length-append}
+use Rattle.std.proofs.Common.{◌≡◌, ℕ, zero, suc, ◌+◌, ◌-◌, ◌*◌, ◌/◌, ◌<◌, ◌≤◌, List, [], ◌∷◌, ◌++◌, length, take, drop, get_or, Option, None, Some, refl, sym, ap, subst, arith, inl, inr}
 use Rattle.std.specs.Prelude.{IfNone, IfSome, SomeIff, nat_le}
 use Rattle.std.proofs.lemmas.Bool.{cases_Bool, cases_lt, leb-true, leb-false}
 use Rattle.spe_model.specs.declared.page.Cell.{Cell}
 use Rattle.spe_model.specs.declared.page.Kind.{Kind}
-use Rattle.spe_model.specs.declared.page.Kind.TheVariants.{TableInterior, TableLeaf}
-use Rattle.spe_format.specs.Canonical.{AreWritable, IsWritableCell, cell_bytes}
-use Rattle.spe_cut.specs.Parts.{need, room, without}
+use Rattle.spe_model.specs.declared.page.Kind.TheVariants.{TableLeaf}
+use Rattle.spe_format.specs.Canonical.{cell_bytes}
+use Rattle.spe_cut.specs.Parts.{need}
 use Rattle.spe_cut.specs.Place.{IsCutAt, count_within}
-use Rattle.spe_cut.proofs.SizeLemmas.{interior_size, leaf_size}
 
 -- a cell with its offset
 abbrev pub size : Kind → Cell → ℕ
@@ -55,10 +54,10 @@ pub few_front : (kind : Kind) (most : ℕ) (cells : List Cell) → need kind (ta
 few_front kind most [] = omega arith
 few_front kind most (c ∷ cs) = elim (cases_Bool (nat_le (size kind c) most)) [
   | inl fits ↦ rw fits (
-    let rest = few_front kind (most - size kind c) cs in
-    let order = leb-true (size kind c) most fits in
-    let next : count_within kind (most - size kind c) cs + 1 ≡ suc (count_within kind (most - size kind c) cs) = omega arith in
-    rw next (omega (arith, rest, order)))
+      let rest = few_front kind (most - size kind c) cs in
+      let order = leb-true (size kind c) most fits in
+      let next : count_within kind (most - size kind c) cs + 1 ≡ suc (count_within kind (most - size kind c) cs) = omega arith in
+      rw next (omega (arith, rest, order)))
   | inr over ↦ rw over (omega arith)
 ]
 
@@ -66,10 +65,10 @@ pub full_front : (kind : Kind) (most : ℕ) (cells : List Cell) → count_within
 full_front kind most [] = λ within. absurd (omega (arith, within))
 full_front kind most (c ∷ cs) = elim (cases_Bool (nat_le (size kind c) most)) [
   | inl fits ↦ rw fits (λ within.
-    let rest = full_front kind (most - size kind c) cs (omega (arith, within)) in
-    let order = leb-true (size kind c) most fits in
-    let next : count_within kind (most - size kind c) cs + 1 + 1 ≡ suc (count_within kind (most - size kind c) cs + 1) = omega arith in
-    rw next (omega (arith, rest, order)))
+      let rest = full_front kind (most - size kind c) cs (omega (arith, within)) in
+      let order = leb-true (size kind c) most fits in
+      let next : count_within kind (most - size kind c) cs + 1 + 1 ≡ suc (count_within kind (most - size kind c) cs + 1) = omega arith in
+      rw next (omega (arith, rest, order)))
   | inr over ↦ rw over (λ within. let order = leb-false (size kind c) most over in omega (arith, order))
 ]
 
@@ -77,8 +76,8 @@ pub some_left : (kind : Kind) (most : ℕ) (cells : List Cell) → most < need k
 some_left kind most [] over = absurd (omega (arith, over))
 some_left kind most (c ∷ cs) over = elim (cases_Bool (nat_le (size kind c) most)) [
   | inl fits ↦ rw fits (
-    let order = leb-true (size kind c) most fits in
-    let rest = some_left kind (most - size kind c) cs (omega (arith, over, order)) in omega (arith, rest))
+      let order = leb-true (size kind c) most fits in
+      let rest = some_left kind (most - size kind c) cs (omega (arith, over, order)) in omega (arith, rest))
   | inr none ↦ rw none (omega arith)
 ]
 
@@ -123,8 +122,8 @@ middle_cuts most total half count longer shorter cells is over half_is count_is 
         from = elim (cases_lt 0 count) [
           | inl some ↦ omega (arith, some)
           | inr none ↦ absurd (
-            let first : need TableLeaf (take count cells) ≡ 0 = ap (λ (n : ℕ). need TableLeaf (take n cells)) (let z : count ≡ 0 = omega (arith, none) in z) in
-            omega (arith, first, short, fits, over))
+              let first : need TableLeaf (take count cells) ≡ 0 = ap (λ (n : ℕ). need TableLeaf (take n cells)) (let z : count ≡ 0 = omega (arith, none) in z) in
+              omega (arith, first, short, fits, over))
         ];
         to = left;
         low = omega (arith, few, short, fits, half_is);
@@ -133,10 +132,10 @@ middle_cuts most total half count longer shorter cells is over half_is count_is 
       none = λ first second at cut. elim (cases_lt count at) [
         | inl behind ↦ (let more = need_more TableLeaf (count + 1) at cells (omega (arith, behind)) in let fits = cut.low in omega (arith, more, fits, long, first))
         | inr before ↦ (
-          let fewer = need_more TableLeaf at count cells before in
-          let rest = need_parted TableLeaf at cells in
-          let fits = cut.high in
-          omega (arith, fewer, rest, fits, short, is, second))
+            let fewer = need_more TableLeaf at count cells before in
+            let rest = need_parted TableLeaf at cells in
+            let fits = cut.high in
+            omega (arith, fewer, rest, fits, short, is, second))
       ];
     }
 

@@ -5,16 +5,15 @@ use Rattle.std.specs.List.{flat_map}
 use Rattle.std.proofs.lemmas.Grind.{flat_map-append}
 use Rattle.std.proofs.lemmas.Bool.{cases_lt}
 use Rattle.std.proofs.lemmas.List.{length-drop, length-take, take-append-drop}
-use Rattle.std.proofs.lemmas.List.Elements.{All-append, All-cons, All-head, All-nil, All-tail}
+use Rattle.std.proofs.lemmas.List.Elements.{All-append, All-cons, All-nil}
 use Rattle.spe_model.specs.declared.page.Cell.{Cell}
 use Rattle.spe_model.specs.declared.page.Kind.{Kind}
 use Rattle.spe_model.specs.declared.page.Kind.TheVariants.{TableInterior, TableLeaf}
 use Rattle.spe_model.specs.Page.{above, ascends}
-use Rattle.spe_format.specs.Canonical.{AreWritable, IsWritable, IsWritableCell, cell_bytes}
+use Rattle.spe_format.specs.Canonical.{AreWritable, IsWritable}
 use Rattle.spe_cut.specs.Parts.{AreLeaves, IsHalved, leaf_cells, need, room, run_cells, without}
 use Rattle.spe_cut.specs.Place.{IsCutAt, count_within, part_of, parts_at}
-use Rattle.spe_cut.specs.Run.{Run}
-use Rattle.spe_cut.proofs.NeedLemmas.{all_front, at_place, few_front, first_fits, full_front, need_append, need_more, need_parted, size, some_left}
+use Rattle.spe_cut.proofs.NeedLemmas.{at_place, few_front, first_fits, full_front, need_append, need_more, need_parted}
 use Rattle.spe_cut.proofs.SizeLemmas.{interior_size, leaf_size}
 
 and_both : (a b : Bool) → (a && b) ≡ true → (a ≡ true) × (b ≡ true)
@@ -210,13 +209,13 @@ interior_cut usable most count at total cells low are over few is share count_is
       low = omega (arith, fewer, front, most_fits);
       high = elim (cases_lt count (length cells - 2)) [
         | inl within ↦ (
-          let same : at ≡ count = omega (arith, at_is, within) in
-          let full : most < need TableInterior (take (count + 1) cells) = subst (λ (n : ℕ). most < need TableInterior (take (n + 1) cells)) (sym count_is)
-          (full_front TableInterior most cells (subst (λ (n : ℕ). n < length cells) count_is (omega (arith, within)))) in
-          let both = need_parted TableInterior (count + 1) cells in
-          let rest : need TableInterior (drop (count + 1) cells) ≤ room TableInterior 0 usable =
-          elim share [ inl e ↦ omega (arith, e, full, both, few, low) | inr e ↦ omega (arith, e, is, full, both, few, low) ] in
-          subst (λ (n : ℕ). need TableInterior (drop (n + 1) cells) ≤ room TableInterior 0 usable) (sym same) rest)
+            let same : at ≡ count = omega (arith, at_is, within) in
+            let full : most < need TableInterior (take (count + 1) cells) = subst (λ (n : ℕ). most < need TableInterior (take (n + 1) cells)) (sym count_is)
+            (full_front TableInterior most cells (subst (λ (n : ℕ). n < length cells) count_is (omega (arith, within)))) in
+            let both = need_parted TableInterior (count + 1) cells in
+            let rest : need TableInterior (drop (count + 1) cells) ≤ room TableInterior 0 usable =
+            elim share [ inl e ↦ omega (arith, e, full, both, few, low) | inr e ↦ omega (arith, e, is, full, both, few, low) ] in
+            subst (λ (n : ℕ). need TableInterior (drop (n + 1) cells) ≤ room TableInterior 0 usable) (sym same) rest)
         | inr all ↦ last_fits usable at cells low are (omega (arith, at_is, all, long))
       ];
     }

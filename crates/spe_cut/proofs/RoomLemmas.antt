@@ -1,10 +1,9 @@
 -- What a run in a child's place takes on its page.
-use Rattle.std.proofs.Common.{◌≡◌, ℕ, suc, ◌+◌, ◌*◌, ◌≤◌, List, [], ◌∷◌, ◌++◌, length, true, false, refl, arith}
-use Rattle.spe_model.specs.declared.page.Cell.{Cell}
+use Rattle.std.proofs.Common.{◌≡◌, ◌∷◌, ◌++◌, true, false, arith}
 use Rattle.spe_model.specs.declared.page.Kind.TheVariants.{TableInterior}
-use Rattle.spe_format.specs.Canonical.{AreWritable, IsWritableCell}
-use Rattle.spe_cut.specs.Parts.{RunIsWritable, RunTakesRoom, need}
-use Rattle.spe_cut.specs.Run.{Place, Run, inner, last, with_child, with_run}
+use Rattle.spe_format.specs.Canonical.{IsWritableCell}
+use Rattle.spe_cut.specs.Parts.{RunIsWritable, RunTakesRoom}
+use Rattle.spe_cut.specs.Run.{inner, last}
 use Rattle.spe_cut.proofs.NeedLemmas.{need_append}
 use Rattle.spe_cut.proofs.PartLemmas.{interior_few, writable_joined, writable_parts}
 use Rattle.spe_cut.proofs.SizeLemmas.{same_size}

@@ -1,5 +1,5 @@
 -- One row more among rows, and one cell more among cells.
-use Rattle.std.proofs.Common.{◌≡◌, ℕ, suc, ℤ, ◌+◌, ◌<◌, ◌≤◌, ◌∙◌, ◌⊎◌, true, false, List, [], ◌∷◌, ◌++◌, All, None, refl, sym, ap, arith, inl, inr}
+use Rattle.std.proofs.Common.{◌≡◌, ℕ, ℤ, ◌+◌, ◌<◌, ◌≤◌, ◌∙◌, ◌⊎◌, false, List, [], ◌∷◌, ◌++◌, All, None, refl, sym, ap, arith, inl, inr}
 use Rattle.std.specs.Prelude.{nat_lt}
 use Rattle.std.specs.List.{flat_map}
 use Rattle.std.specs.Ordering.{int_eq}

@@ -1,12 +1,12 @@
 -- How many bytes a cell takes.
-use Rattle.std.proofs.Common.{◌≡◌, ℕ, ◌+◌, ◌-◌, ◌*◌, ◌/◌, ◌%◌, ◌<◌, ◌≤◌, ◌∙◌, List, [], ◌∷◌, ◌++◌, length, Bool, true, false, refl, sym, ap, arith, inl, inr, length-append}
+use Rattle.std.proofs.Common.{◌≡◌, ℕ, ◌+◌, ◌-◌, ◌*◌, ◌/◌, ◌%◌, ◌≤◌, ◌∙◌, List, [], ◌∷◌, ◌++◌, length, Bool, refl, sym, ap, arith, inl, inr, length-append}
 use Rattle.std.specs.Prelude.{◌==◌, ◌^◌, nat_le, nat_lt, if◌then◌else◌, unwrap_or}
 use Rattle.std.specs.List.{find}
 use Rattle.std.specs.Int.{w64, cast_unsigned}
 use Rattle.std.proofs.lemmas.Bool.{cases_Bool, leb-true}
 use Rattle.spe_model.specs.declared.page.Cell.{Cell}
 use Rattle.spe_model.specs.declared.page.Kind.TheVariants.{TableInterior, TableLeaf}
-use Rattle.spe_model.specs.Kind.{least_local, local_of, most_local}
+use Rattle.spe_model.specs.Kind.{least_local, local_of}
 use Rattle.spe_model.specs.Varint.{varint_length}
 use Rattle.spe_format.specs.Canonical.{IsWritableCell, cell_bytes, chain_bytes, key_bytes, left_bytes, payload_bytes}
 use Rattle.spe_format.specs.Spelling.{groups, varint_bytes}

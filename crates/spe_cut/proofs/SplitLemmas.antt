@@ -1,15 +1,14 @@
 -- A run cut in two, and the two pages that hold its halves.
-use Rattle.std.proofs.Common.{◌≡◌, ℕ, suc, ℤ, ◌+◌, ◌<◌, ◌≤◌, ◌∙◌, List, [], ◌∷◌, ◌++◌, length, refl, sym, ap, arith, inr}
+use Rattle.std.proofs.Common.{◌≡◌, ℕ, suc, ℤ, ◌+◌, ◌<◌, ◌≤◌, ◌∙◌, List, [], ◌∷◌, ◌++◌, length, sym, ap, arith, inr}
 use Rattle.spe_model.specs.declared.page.Cell.{Cell}
-use Rattle.spe_model.specs.Paging.{Paging}
 use Rattle.spe_model.specs.Served.{HasCells}
 use Rattle.spe_model.specs.Standing.{all_pages}
 use Rattle.spe_model.specs.Tree.{AreUnder, IsTree, rank, tree_rows}
 use Rattle.spe_frame.specs.Times.{AreSame, one_if, times}
 use Rattle.spe_frame.proofs.TimesLemmas.{times-append}
 use Rattle.std.specs.Prelude.{◌==◌}
-use Rattle.spe_cut.specs.Run.{IsRun, pages_in, rows_in}
-use Rattle.spe_cut.specs.Split.{AreHalves, Cut, HalvesArePair, RunIsCut, high_half, low_half, whole}
+use Rattle.spe_cut.specs.Run.{pages_in, rows_in}
+use Rattle.spe_cut.specs.Split.{HalvesArePair, RunIsCut, high_half, low_half}
 use Rattle.spe_cut.proofs.FanLemmas.{below_halves, fan_parted, under_halves}
 use Rattle.spe_cut.proofs.HolderLemmas.{holder_of_run}
 

@@ -1,5 +1,5 @@
 -- Places at which cells are cut.
-use Rattle.std.specs.Prelude.{◌≡◌, ℕ, zero, suc, ◌+◌, ◌-◌, ◌<◌, ◌≤◌, List, [], ◌∷◌, ◌++◌, length, take, drop, nat_le, if◌then◌else◌}
+use Rattle.std.specs.Prelude.{◌≡◌, ℕ, ◌+◌, ◌-◌, ◌<◌, ◌≤◌, List, [], ◌∷◌, ◌++◌, length, take, drop, nat_le, if◌then◌else◌}
 use Rattle.spe_model.specs.declared.page.Cell.{Cell}
 use Rattle.spe_model.specs.declared.page.Kind.{Kind}
 use Rattle.spe_model.specs.declared.page.Kind.TheVariants.{TableLeaf}

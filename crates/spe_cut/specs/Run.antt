@@ -9,7 +9,7 @@ use Rattle.spe_model.specs.Served.{HasCells}
 use Rattle.spe_model.specs.Standing.{AreBelow, all_pages}
 use Rattle.spe_model.specs.Tree.{AreUnder, IsTree, fan, node_at, rank, tree_rows}
 use Rattle.spe_format.specs.Canonical.{AreWritable}
-use Rattle.spe_frame.specs.Times.{AreSame, HoldsOf}
+use Rattle.spe_frame.specs.Times.{HoldsOf}
 
 pub record Run : Type 0 where
   pub cells : List Cell

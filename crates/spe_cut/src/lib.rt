@@ -9,4 +9,4 @@ mod law;
 mod parts;
 
 pub use law::{child_law, depth_law, leaf_law, root_law, row_law, split_law};
-pub use parts::{CellParts, Halves, interior_parts, leaf_parts, room_of, room_law};
+pub use parts::{CellParts, Halves, interior_parts, leaf_parts, room_law, room_of};

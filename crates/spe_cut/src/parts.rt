@@ -3,7 +3,6 @@
 ghost use Rattle.std.specs.Prelude.{◌≡◌, ◌+◌, ◌*◌, ◌/◌, ◌^◌, ◌<◌, ◌≤◌, ◌⊎◌, ◌∷◌, ◌++◌, [], ℕ, length, take, drop, IfOk, OnOk, IfSome, IfNone, SomeIff};
 ghost use Rattle.spe_format.specs.Canonical.{IsWritable};
 ghost use Rattle.spe_cut.specs.Parts.{AreLeaves, IsHalved, RunIsWritable, RunTakesRoom, SeparatorIsWritable, leaf_cells, need, room, run_cells, without};
-
 ghost use Rattle.spe_cut.specs.Place.{IsCutAt, IsParted, count_within, part_of, parts_at};
 
 use spe_format::cell_length;
@@ -196,6 +195,23 @@ fn first_share(total: usize, usable: u32, at_end: bool) -> usize
     total / 2
 }
 
+// The halves that a cell parts.
+fn halves_of(low: Vec<Cell>, middle: Cell, high: Vec<Cell>, right: u32) -> Halves
+    ensures low { result.low ≡ low.items }
+    ensures high { result.high ≡ high.items }
+    ensures child { result.low_right ≡ middle.left }
+    ensures key { result.key ≡ middle.key }
+    ensures last { result.high_right ≡ right }
+{
+    Halves {
+        low: Cells::new(low),
+        low_right: middle.left,
+        key: middle.key,
+        high: Cells::new(high),
+        high_right: right,
+    }
+}
+
 // The cells before a place and those behind it, the one at it between them.
 fn halves_at(cells: Vec<Cell>, at: usize, right: u32) -> Result<Halves, AllocError>
     requires { at < length cells.items }
@@ -204,13 +220,7 @@ fn halves_at(cells: Vec<Cell>, at: usize, right: u32) -> Result<Halves, AllocErr
     let mut low = cells;
     let high = low.split_off(at + 1)?;
     match low.pop() {
-        Some(middle) => Ok(Halves {
-            low: Cells::new(low),
-            low_right: middle.left,
-            key: middle.key,
-            high: Cells::new(high),
-            high_right: right,
-        }),
+        Some(middle) => Ok(halves_of(low, middle, high, right)),
         None => unreachable!(),
     }
 }
@@ -279,7 +289,11 @@ pub fn interior_parts(
 {
     let list = cells.as_slice();
     let total = need_of(Kind::TableInterior, list);
-    let (count, _) = front_within(Kind::TableInterior, list, first_share(total, usable, at_end));
+    let (count, _) = front_within(
+        Kind::TableInterior,
+        list,
+        first_share(total, usable, at_end),
+    );
     let at = count.min(list.len() - 2);
     halves_at(cells.into_vec(), at, right)
 }

@@ -4,15 +4,19 @@ ghost use Rattle.std.specs.Prelude.{◌≡◌};
 
 use spe_model::SqlFault;
 use std::alloc::{AllocError, AllocFailed};
+use thiserror::Error;
 
 /// Why reading stops before a part of a statement is whole.
-#[derive(Clone, Copy, Debug, PartialEq, Eq)]
+#[derive(Clone, Copy, Debug, PartialEq, Eq, Error)]
 pub enum Halt {
     /// The tokens end where another has to stand.
+    #[error("the statement ends too early")]
     Ends,
     /// No rule admits the token at a place, or a number there is out of range.
-    Fault(SqlFault),
+    #[error("{0}")]
+    Fault(#[source] SqlFault),
     /// There was no memory.
+    #[error("out of memory")]
     Memory,
 }
 

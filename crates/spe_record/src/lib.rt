@@ -5,12 +5,14 @@
 //! of memory alone is free.
 #![tactic(auto)]
 
+mod counted;
 mod length;
 mod record;
 mod types;
 mod values;
 mod written;
 
+pub use counted::value_count;
 pub use length::encoded_length;
 pub use record::decode;
 pub use spe_model::RecordFault;

@@ -148,7 +148,7 @@ impl<E> Slots<E> {
         ensures word { result ≡ page % self.now.count }
         ensures below { result < self.now.count }
     {
-        page % self.count
+        page & (self.count - 1)
     }
 }
 

@@ -66,6 +66,16 @@ pub fn spoilt(alloc: Global, pages: &[usize]) -> Result<Vec<u8>, AllocError> {
     Ok(file)
 }
 
+// Adds a record of a page, as the file has it.
+fn push_record(found: &mut Vec<u8>, file: &[u8], page: u8) -> Result<(), AllocError> {
+    found.extend_from_slice(&[0, 0, 0, page])?;
+    let from = usize::from(page).saturating_sub(1).wrapping_mul(PAGE);
+    for byte in file.iter().skip(from).take(PAGE) {
+        found.push(*byte)?;
+    }
+    found.extend_from_slice(&[0, 0, 0, 16])
+}
+
 /// A journal with a record of each of these pages, as the database has them. Each has the checksum
 /// 16, since the bytes that count are zero.
 pub fn journal(alloc: Global, pages: &[u8]) -> Result<Vec<u8>, AllocError> {
@@ -73,12 +83,7 @@ pub fn journal(alloc: Global, pages: &[u8]) -> Result<Vec<u8>, AllocError> {
     let mut found = vec![in alloc; 0u8; 512]?;
     lay(&mut found, 0, HEAD);
     for page in pages {
-        found.extend_from_slice(&[0, 0, 0, *page])?;
-        let from = usize::from(*page).saturating_sub(1).wrapping_mul(PAGE);
-        for byte in file.iter().skip(from).take(PAGE) {
-            found.push(*byte)?;
-        }
-        found.extend_from_slice(&[0, 0, 0, 16])?;
+        push_record(&mut found, &file, *page)?;
     }
     Ok(found)
 }

@@ -8,10 +8,10 @@ use super::events::Move::{
 };
 use super::events::{Filling, Move, Next, event_of, page_of};
 use super::files::{PAGE, lay, two};
-use spe_core::{Answer, Core, Events, is_opening, run_events, step};
+use super::run::expect;
+use spe_core::{Answer, Core, Event, Events, is_opening, run_events, step};
 use spe_model::{Bytes, FileNo};
 use std::alloc::{AllocError, Global};
-use std::process::Abort;
 use std::test::Fail;
 
 /// A page that is not as it was at first: its number, what was written to it, and how many of the
@@ -518,18 +518,23 @@ static RUNS: [Run; 48] = [
     ),
 ];
 
+// Lays the first bytes of a page filled so over a file, which grows where it must.
+fn lay_change(alloc: Global, file: &mut Vec<u8>, change: &Change) -> Result<(), AllocError> {
+    let (page, filling, bytes) = *change;
+    let from = (page as usize).saturating_sub(1).wrapping_mul(PAGE);
+    let content = page_of(alloc, filling)?.into_vec();
+    if file.len() < from.saturating_add(bytes) {
+        file.resize(from.saturating_add(bytes), 0)?;
+    }
+    lay(file, from, content.get(..bytes).unwrap_or(&content));
+    Ok(())
+}
+
 // The bytes of the file with these changes.
 fn file_of(alloc: Global, changes: &[Change]) -> Result<Vec<u8>, AllocError> {
     let mut file = two(alloc)?;
-    for (page, filling, bytes) in changes {
-        let from = (*page as usize).saturating_sub(1).wrapping_mul(PAGE);
-        let mut content = page_of(alloc, *filling)?.into_vec();
-        content.truncate(*bytes);
-        let end = from.saturating_add(content.len());
-        if file.len() < end {
-            file.resize(end, 0)?;
-        }
-        lay(&mut file, from, &content);
+    for change in changes {
+        lay_change(alloc, &mut file, change)?;
     }
     Ok(file)
 }
@@ -552,22 +557,29 @@ fn begun(alloc: Global) -> Result<Option<Core>, AllocError> {
     Ok(Some(Core::new(alloc, Bytes::new(file), 16)?))
 }
 
-// Steps the events, with a letter for each: made or refused.
-fn letters_of(alloc: Global, core: &mut Core, events: &Events) -> Result<String, AllocError> {
-    let mut letters = String::new(alloc);
-    for event in events.as_slice() {
-        letters.push(match step(core, event)? {
-            Answer::Done => 'm',
-            Answer::Refused => 'r',
-        })?;
+// Whether the core answers the event with this letter: made or refused.
+fn answers(core: &mut Core, event: &Event, letter: u8) -> Result<bool, AllocError> {
+    Ok(match step(core, event)? {
+        Answer::Done => letter == b'm',
+        Answer::Refused => letter == b'r',
+    })
+}
+
+// Whether the core answers the events with these letters, one for each.
+fn answers_all(core: &mut Core, events: &[Event], letters: &[u8]) -> Result<bool, AllocError> {
+    let mut same = events.len() == letters.len();
+    for (event, letter) in events.iter().zip(letters) {
+        if !answers(core, event, *letter)? {
+            same = false;
+        }
     }
-    Ok(letters)
+    Ok(same)
 }
 
 // How many of some events are made.
-fn made_in(answers: &str) -> u64 {
+fn made_in(letters: &str) -> u64 {
     let mut made = 0u64;
-    for letter in answers.as_bytes() {
+    for letter in letters.as_bytes() {
         if *letter == b'm' {
             made = made.wrapping_add(1);
         }
@@ -575,54 +587,58 @@ fn made_in(answers: &str) -> u64 {
     made
 }
 
-fn is_as(core: &Core, commits: u64, journal: usize, file: &[u8]) -> bool {
-    core.commit_count() == commits
-        && core.bytes(FileNo::Journal(0)).len() == journal
-        && core.bytes(FileNo::Database) == file
+// Whether the core has the commits and bytes that a run says.
+fn is_left(alloc: Global, core: &Core, run: &Run) -> Result<bool, AllocError> {
+    let (_, _, commits, journal, changes) = *run;
+    let file = file_of(alloc, changes)?;
+    Ok(
+        core.commit_count() == commits
+            && core.bytes(FileNo::Journal(0)).len() == journal
+            && core.bytes(FileNo::Database) == file.as_slice(),
+    )
 }
 
-// One by one by `step`.
-fn expect(rt: &impl Abort, alloc: Global, run: &Run) -> Result<(), AllocError> {
-    let (moves, answers, commits, journal, changes) = *run;
-    let Some(mut core) = begun(alloc)? else {
-        assert!(rt; false);
-        return Ok(());
-    };
-    let events = events_of(alloc, moves)?;
-    let letters = letters_of(alloc, &mut core, &events)?;
-    let file = file_of(alloc, changes)?;
-    assert_eq!(rt; letters.as_str(), answers);
-    assert!(rt; is_as(&core, commits, journal, &file), "{answers}");
-    Ok(())
+// One by one by `step`: whether each is answered as the run says.
+fn steps(alloc: Global, core: &mut Core, run: &Run) -> Result<bool, AllocError> {
+    let events = events_of(alloc, run.0)?;
+    answers_all(core, events.as_slice(), run.1.as_bytes())
 }
 
-// All by `run_events`.
-fn expect_all(rt: &impl Abort, alloc: Global, run: &Run) -> Result<(), AllocError> {
-    let (moves, answers, commits, journal, changes) = *run;
-    let Some(mut core) = begun(alloc)? else {
-        assert!(rt; false);
-        return Ok(());
+// All by `run_events`: whether as many are made as the run says.
+fn runs(alloc: Global, core: &mut Core, run: &Run) -> Result<bool, AllocError> {
+    let events = events_of(alloc, run.0)?;
+    let made = run_events(core, &events)?;
+    Ok(made == made_in(run.1))
+}
+
+// Whether the core makes of the run what it says, by `step` or by `run_events`.
+fn holds_of(alloc: Global, core: &mut Core, run: &Run, by_step: bool) -> Result<bool, AllocError> {
+    let made = if by_step {
+        steps(alloc, core, run)?
+    } else {
+        runs(alloc, core, run)?
     };
-    let events = events_of(alloc, moves)?;
-    let made = run_events(&mut core, &events)?;
-    let file = file_of(alloc, changes)?;
-    assert_eq!(rt; made, made_in(answers), "{answers}");
-    assert!(rt; is_as(&core, commits, journal, &file), "{answers}");
-    Ok(())
+    let left = is_left(alloc, core, run)?;
+    Ok(made && left)
+}
+
+fn holds_by(alloc: Global, run: &Run, by_step: bool) -> Result<bool, AllocError> {
+    match begun(alloc)? {
+        Some(mut core) => holds_of(alloc, &mut core, run, by_step),
+        None => Ok(false),
+    }
+}
+
+fn holds(alloc: Global, run: &Run) -> Result<bool, AllocError> {
+    let stepped = holds_by(alloc, run, true)?;
+    let ran = holds_by(alloc, run, false)?;
+    Ok(stepped && ran)
 }
 
 #[test]
 fn made_or_refused(rt: HostRuntime) -> Result<(), Fail> {
-    for run in &RUNS {
-        expect(&rt, rt.alloc(), run)?;
-    }
-    Ok(())
-}
-
-#[test]
-fn made_in_one_run(rt: HostRuntime) -> Result<(), Fail> {
-    for run in &RUNS {
-        expect_all(&rt, rt.alloc(), run)?;
+    for (row, run) in RUNS.iter().enumerate() {
+        expect(&rt, row, holds(rt.alloc(), run)?);
     }
     Ok(())
 }

@@ -3,11 +3,12 @@
 ghost use Rattle.std.specs.Prelude.{◌≡◌, false, true, IfOk};
 ghost use Rattle.spe_disk.specs.Memory.{is_attached};
 
-use super::files::PAGE;
+use super::files::{PAGE, journal, spoilt};
 use spe_disk::{Disk, Faults, FileNo, MemDisk};
 use spe_model::{Numbers, RecoverFault, Recovered};
 use spe_recover::{Want, recover};
 use std::alloc::{AllocError, Global};
+use std::process::Abort;
 
 /// Which operation and which reading call fail, 0 for none, and whether the operation is made.
 #[derive(Clone, Copy)]
@@ -24,13 +25,8 @@ pub const NOTHING: Failing = Failing {
     made: false,
 };
 
-/// A disk with this database and these journals.
-pub fn disk_of(
-    alloc: Global,
-    file: &[u8],
-    journals: &[(u8, Vec<u8>)],
-    failing: Failing,
-) -> Result<MemDisk, AllocError>
+/// A disk with this database.
+pub fn disk_of(alloc: Global, file: &[u8], failing: Failing) -> Result<MemDisk, AllocError>
     ensures { IfOk result (λ d. is_attached d ≡ false) }
 {
     let faults = Faults {
@@ -40,14 +36,35 @@ pub fn disk_of(
     };
     let mut disk = MemDisk::new(alloc, 1 << 15, 16, faults)?;
     let _ = disk.load(FileNo::Database, file);
-    let mut left = journals;
-    while let [(id, bytes), rest @ ..] = left {
-        if *id < 16 {
-            let _ = disk.load(FileNo::Journal(*id), bytes);
-        }
-        left = rest;
-    }
     Ok(disk)
+}
+
+/// A disk with the database of which these pages are overwritten.
+pub fn disk_over(alloc: Global, pages: &[usize], failing: Failing) -> Result<MemDisk, AllocError>
+    ensures { IfOk result (λ d. is_attached d ≡ false) }
+{
+    let file = spoilt(alloc, pages)?;
+    disk_of(alloc, &file, failing)
+}
+
+/// Puts a journal of an id onto a disk.
+pub fn load(disk: &mut MemDisk, id: u8, journal: &[u8])
+    requires { is_attached disk.old ≡ false }
+    ensures { is_attached disk.new ≡ false }
+{
+    if id < 16 {
+        let _ = disk.load(FileNo::Journal(id), journal);
+    }
+}
+
+/// Puts a journal of an id that holds these pages onto a disk.
+pub fn load_pages(alloc: Global, disk: &mut MemDisk, id: u8, pages: &[u8]) -> Result<(), AllocError>
+    requires { is_attached disk.old ≡ false }
+    ensures { is_attached disk.new ≡ false }
+{
+    let bytes = journal(alloc, pages)?;
+    load(disk, id, &bytes);
+    Ok(())
 }
 
 /// Attaches a disk and recovers it.
@@ -69,11 +86,26 @@ pub fn wanted(alloc: Global, disk: &mut MemDisk, want: Want) -> Result<Recovered
     }
 }
 
-/// The first bytes of the database file that is attached, six pages of them.
-pub fn file_of(alloc: Global, disk: &mut MemDisk) -> Result<Vec<u8>, AllocError>
+// The first six pages of the database file that is attached.
+fn file_of(alloc: Global, disk: &mut MemDisk) -> Result<Vec<u8>, AllocError>
     requires { is_attached disk.old ≡ true }
 {
     let mut file = vec![in alloc; 0u8; 6 * PAGE]?;
     let _ = disk.read_at(FileNo::Database, 0, &mut file);
     Ok(file)
+}
+
+/// Whether the first six pages of the database file that is attached are as they were, but for these
+/// pages, which are overwritten.
+pub fn is_spoilt(alloc: Global, disk: &mut MemDisk, pages: &[usize]) -> Result<bool, AllocError>
+    requires { is_attached disk.old ≡ true }
+{
+    let wanted = spoilt(alloc, pages)?;
+    let file = file_of(alloc, disk)?;
+    Ok(file.as_slice() == wanted.as_slice())
+}
+
+/// Expects that the case of a row holds.
+pub fn expect(rt: &impl Abort, row: usize, holds: bool) {
+    assert!(rt; holds, "row {row}");
 }

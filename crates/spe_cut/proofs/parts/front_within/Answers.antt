@@ -1,5 +1,4 @@
-use Rattle.std.proofs.Common.{◌<◌, ◌^◌, arith}
-use Rattle.spe_cut.specs.Parts.{need}
+use Rattle.std.proofs.Common.{arith}
 use Rattle.spe_cut.proofs.LoopLemmas.{front_few, front_room, front_turn}
 use Rattle.spe_cut.proofs.parts.front_within.Goals as goal
 

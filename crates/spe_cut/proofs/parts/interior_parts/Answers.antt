@@ -1,4 +1,4 @@
-use Rattle.std.proofs.Common.{◌≡◌, ◌-◌, ◌≤◌, length, arith}
+use Rattle.std.proofs.Common.{◌≡◌, ◌-◌, length, arith}
 use Rattle.std.specs.Prelude.{min}
 use Rattle.spe_cut.specs.declared.parts.Halves.{Halves}
 use Rattle.spe_cut.specs.Parts.{IsHalved}

@@ -1,4 +1,4 @@
-use Rattle.std.proofs.Common.{◌≡◌, ℕ, ◌+◌, ◌-◌, arith}
+use Rattle.std.proofs.Common.{ℕ, arith}
 use Rattle.spe_cut.specs.Place.{IsCutAt}
 use Rattle.spe_cut.proofs.NeedLemmas.{MiddleFound, cut_found, longer_fits, middle_both, middle_found, none_found}
 use Rattle.spe_cut.proofs.parts.middle_of.Goals as goal

@@ -1,0 +1,12 @@
+pub mod StayLemmas
+pub mod TrunkLemmas
+pub mod FrontLemmas
+pub mod ListLemmas
+pub mod ChainLemmas
+pub mod DealtLemmas
+pub mod LaidLemmas
+pub mod ReleaseLemmas
+pub mod PrepareLemmas
+pub mod ReadLemmas
+pub mod FoundLemmas
+pub mod CountLemmas

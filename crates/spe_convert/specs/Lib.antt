@@ -1,0 +1,6 @@
+pub mod Trunk
+pub mod Dealt
+pub mod Changes
+pub mod Laws
+pub mod Reading
+pub mod Free

@@ -1,0 +1,18 @@
+//! The free lists of a database, which are put in server form and back in stock form.
+//!
+//! `lists_keep` says that pages whose free lists are put in another form, by the pages that
+//! `prepared_changes` and `released_changes` name, stand for the same database, with the same pages
+//! free. `read_free` reads the numbers of all free pages, in either form, from the file; `trunk_page`,
+//! `node_page`, `front_page` and `counted_page` give the bytes of the pages that change.
+#![tactic(auto)]
+
+mod fault;
+mod free;
+mod law;
+mod page;
+mod trunks;
+
+pub use fault::ConvertFault;
+pub use free::read_free;
+pub use law::lists_keep;
+pub use page::{counted_page, front_page, node_page, trunk_page};

@@ -1,0 +1,13 @@
+mod Walks
+mod SavedLemmas
+mod ListLemmas
+pub mod HeldLemmas
+pub mod OpenLemmas
+pub mod SaveLemmas
+pub mod PutLemmas
+pub mod ReadLemmas
+pub mod ServedLemmas
+pub mod LeftLemmas
+pub mod EndLemmas
+pub mod CommitLemmas
+pub mod NewLemmas

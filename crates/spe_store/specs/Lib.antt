@@ -1,0 +1,10 @@
+pub mod Opened
+pub mod Desk
+pub mod Event
+pub mod Served
+pub mod Pass
+pub mod Saved
+pub mod Mishap
+pub mod Work
+pub mod Store
+pub mod Call

@@ -1,0 +1,47 @@
+-- What becomes of what a store holds of a transaction.
+use Rattle.std.specs.Prelude.{◌≡◌, ◌+◌, ℕ, ◌==◌, true, false, if◌then◌else◌, List, [], ◌∷◌, ◌++◌, length, All, Option, Some, None}
+use Rattle.spe_transactions.specs.Pages.{named_count}
+use Rattle.spe_store.specs.declared.work.Work.{Work}
+use Rattle.spe_store.specs.Saved.{marked}
+
+-- there is no transaction
+pub record IsIdle (w : Work) : Type 0 where
+  pub end : w.end ≡ 0
+  pub own : w.own ≡ None
+  pub saved : w.saved ≡ []
+  pub due : w.due ≡ false
+
+-- sixteen ids of which none has a transaction
+pub record AreIdle (works : List Work) : Type 0 where
+  pub all : length works ≡ 16
+  pub each : All IsIdle works
+
+-- the size in pages that a transaction has written into its page 1, after it has written a page
+abbrev pub own_after : (page : ℕ) → List ℕ → Option ℕ → Option ℕ
+own_after page bytes own = if page == 1 then Some (named_count bytes) else own
+
+abbrev pub own_without : (page : ℕ) → Option ℕ → Option ℕ
+own_without page own = if page == 1 then None else own
+
+-- what a transaction is once it has journalled a page
+pub record IsSavedIn (page_size page : ℕ) (bytes : List ℕ) (old new : Work) : Type 0 where
+  pub nonce : new.nonce ≡ old.nonce
+  pub end : new.end ≡ old.end + page_size + 8
+  pub own : new.own ≡ old.own
+  pub due : new.due ≡ old.due
+  pub saved : new.saved ≡ old.saved ++ record { page = page; bytes = bytes; changed = false } ∷ []
+
+-- what a transaction is once it has written a page, or has its old bytes back
+pub record HasWritten (page : ℕ) (bytes : List ℕ) (old new : Work) : Type 0 where
+  pub nonce : new.nonce ≡ old.nonce
+  pub end : new.end ≡ old.end
+  pub own : new.own ≡ own_after page bytes old.own
+  pub due : new.due ≡ old.due
+  pub saved : new.saved ≡ marked page true old.saved
+
+pub record HasUndone (page : ℕ) (old new : Work) : Type 0 where
+  pub nonce : new.nonce ≡ old.nonce
+  pub end : new.end ≡ old.end
+  pub own : new.own ≡ own_without page old.own
+  pub due : new.due ≡ old.due
+  pub saved : new.saved ≡ marked page false old.saved

@@ -1,0 +1,141 @@
+//! The store, and what is so of it at every time.
+
+use crate::desk::Desk;
+use crate::opening::Opening;
+use crate::order::Order;
+use crate::story::Story;
+use crate::work::{Work, no_works};
+use spe_disk::{Disk, Failed};
+use spe_model::Recovered;
+use std::alloc::Global;
+use std::marker::{Model, PhantomData};
+
+/// Why a store was not opened.
+#[derive(Clone, Copy, Debug, PartialEq, Eq)]
+pub enum OpenWhy {
+    /// The disk failed while the journals were made.
+    Disk,
+    /// There is no memory left.
+    Memory,
+}
+
+/// A store was not opened. The disk is given back.
+#[derive(Drop)]
+pub struct OpenFault<D: Disk> {
+    pub disk: D,
+    pub why: OpenWhy,
+}
+
+/// What up to sixteen transactions do to the files of a database.
+#[derive(Drop)]
+pub struct Store<D: Disk, N: Opening> {
+    pub(crate) alloc: Global,
+    pub(crate) desk: Desk<D>,
+    pub(crate) page_size: u32,
+    pub(crate) count: u32,
+    pub(crate) works: Vec<Work>,
+    pub(crate) order: Order,
+    pub(crate) story: Story,
+    pub(crate) of: PhantomData<N>,
+}
+
+impl<D: Disk, N: Opening> Model for Store<D, N> {
+    ghost use Rattle.spe_store.specs.Store.{Store, IsStored};
+
+    ghost Value = { Store };
+
+    ghost view = { λ s. record { desk = s.desk; events = s.story.events; page_size = s.page_size; count = s.count } };
+
+    ghost invariant = { λ s. IsStored N.opened (record { desk = s.desk; events = s.story.events; page_size = s.page_size; count = s.count }) s.works.items s.order };
+}
+
+impl<D: Disk, N: Opening> Store<D, N> {
+    ghost use Rattle.std.specs.Prelude.{◌≡◌, ◌≤◌, [], true, None, IfOk, IfErr, length};
+    ghost use Rattle.std.specs.Option.{option_map};
+    ghost use Rattle.spe_model.specs.Trace.{History};
+    ghost use Rattle.spe_store.specs.Store.{IfTold};
+    ghost use Rattle.spe_model.specs.Settled.{IsWithinLimits};
+    ghost use Rattle.spe_store.specs.Call.{CutsAreServed, HasOpened, IsNew, IsUnopened, KeepsCuts, KeepsPages};
+    ghost use Rattle.spe_store.specs.Event.{entries_in};
+
+    /// A store over a disk whose files were recovered, with what recovery found. The journals that are absent
+    /// are made.
+    ///
+    /// The type names what was read of the files and of the disk, and no operation may have been made since
+    /// but those that recovery counted. Where the disk fails some journals may have been made, which changes
+    /// no recovered page.
+    pub fn new(alloc: Global, disk: D, found: &Recovered) -> Result<Store<D, N>, OpenFault<D>>
+        requires attached { D.attached disk ≡ true }
+        requires limits { IsWithinLimits found.now }
+        requires found { found.now ≡ N.opened.found }
+        requires first { option_map (λ (h : History). h.first) (D.told disk) ≡ N.opened.first }
+        requires opened { IfTold (D.told disk) (HasOpened N.opened) }
+        requires reads { D.read_faults disk ≡ N.opened.reads }
+        requires faults { D.op_faults disk ≡ N.opened.faults }
+        ensures new { IfOk result (IsNew N.opened) }
+        ensures unopened { IfErr result (λ fault. IsUnopened N.opened (D.op_faults fault.disk) fault.why) }
+        ensures cuts { IfErr result (λ fault. IfTold (D.told fault.disk) (λ h. CutsAreServed N.opened h [])) }
+        ensures attached { IfErr result (λ fault. D.attached fault.disk ≡ true) }
+        ensures readings { IfErr result (λ fault. D.read_faults fault.disk ≡ D.read_faults disk) }
+    {
+        let mut disk = disk;
+        let Ok(works) = no_works(alloc) else {
+            return Err(OpenFault {
+                disk,
+                why: OpenWhy::Memory,
+            });
+        };
+        let made = match disk.make_journals() {
+            Ok(made) => made,
+            Err(Failed) => {
+                return Err(OpenFault {
+                    disk,
+                    why: OpenWhy::Disk,
+                });
+            }
+        };
+        let Some(ops) = found.ops.checked_add(u64::from(made)) else {
+            return Err(OpenFault {
+                disk,
+                why: OpenWhy::Disk,
+            });
+        };
+        let desk = Desk::new(disk, ops);
+        Ok(Store {
+            alloc,
+            desk,
+            page_size: found.page_size,
+            count: found.pages,
+            works,
+            order: Order::none(alloc),
+            story: Story::none(),
+            of: PhantomData,
+        })
+    }
+
+    /// How many commits there are.
+    pub fn number(&self) -> u64
+        ensures { result ≡ length (entries_in self.now.events) }
+    {
+        self.order.len() as u64
+    }
+
+    /// How many pages there are after all commits.
+    pub fn count(&self) -> u32
+        ensures { result ≡ self.now.count }
+    {
+        self.count
+    }
+
+    /// What is so at every time.
+    ///
+    /// At each cut of the trace so far the recovered pages are those after the commits within it, and these
+    /// are served for what the commits leave, where the pages of the opening were. Until the store stops,
+    /// what each transaction has read is as after all commits.
+    pub fn keeps(&self)
+        ensures cuts { KeepsCuts N.opened self.now }
+        ensures pages { KeepsPages N.opened self.now }
+    {
+        let _story = &self.story;
+    }
+}
