@@ -1,13 +1,10 @@
 mod cells;
 mod files;
-mod journals;
 mod kinds;
 mod leaves;
 mod lists;
 mod order;
-mod outside;
 mod pages;
-mod read_only;
 mod records;
 mod references;
 mod run;

@@ -3,6 +3,8 @@
 use spe_disk::{Failed, ScriptFault};
 use spe_files::FileFault;
 use spe_model::{HeaderFault, PageFault, RecordFault, RecoverFault, Refusal, SqlFault, SqlKind};
+use spe_parse::Halt;
+use spe_script::{ScriptError, ScriptKind};
 use spe_space::{SpaceFault, TreeFault};
 use spe_words::WordsFault;
 use std::alloc::{AllocError, Global};
@@ -167,6 +169,53 @@ static TEXTS: [(SqlFault, &str); 5] = [
     ),
 ];
 
+static HALTS: [(Halt, &str); 3] = [
+    (Halt::Ends, "the statement ends too early"),
+    (
+        Halt::Fault(SqlFault {
+            at: 5,
+            kind: SqlKind::Expected,
+        }),
+        "not expected at byte 5",
+    ),
+    (Halt::Memory, "out of memory"),
+];
+
+static SCRIPTS: [(ScriptKind, &str); 9] = [
+    (ScriptKind::NotUtf8, "the script is not UTF-8"),
+    (ScriptKind::Token, "no token"),
+    (ScriptKind::Expected, "not expected"),
+    (ScriptKind::Unsupported, "not supported"),
+    (ScriptKind::NumberRange, "a whole number past 64 bits"),
+    (ScriptKind::Nested, "BEGIN inside a transaction"),
+    (
+        ScriptKind::NotOpen,
+        "the end of a transaction where none is open",
+    ),
+    (
+        ScriptKind::TooLong,
+        "the script has more than 16777216 bytes",
+    ),
+    (ScriptKind::Memory, "out of memory"),
+];
+
+static REFUSED_SCRIPTS: [(ScriptError, &str); 2] = [
+    (
+        ScriptError {
+            line: 12,
+            kind: ScriptKind::Nested,
+        },
+        "line 12: BEGIN inside a transaction",
+    ),
+    (
+        ScriptError {
+            line: 0,
+            kind: ScriptKind::TooLong,
+        },
+        "line 0: the script has more than 16777216 bytes",
+    ),
+];
+
 static TREES: [(TreeFault, &str); 8] = [
     (
         TreeFault::Space(SpaceFault::Busy { page: 9, word: 48 }),
@@ -252,6 +301,14 @@ fn statements(rt: HostRuntime) -> Result<(), Fail> {
     expect_each(&rt, rt.alloc(), &REFUSALS)?;
     expect_each(&rt, rt.alloc(), &TEXTS)?;
     expect_each(&rt, rt.alloc(), &TREES)?;
+    Ok(())
+}
+
+#[test]
+fn scripts(rt: HostRuntime) -> Result<(), Fail> {
+    expect_each(&rt, rt.alloc(), &HALTS)?;
+    expect_each(&rt, rt.alloc(), &SCRIPTS)?;
+    expect_each(&rt, rt.alloc(), &REFUSED_SCRIPTS)?;
     Ok(())
 }
 

@@ -1,4 +1,5 @@
-//! Tests of the command `rows`, through the call that does all that the program does.
+//! Tests of the commands `rows` and `check` over words, journals and failures outside, through the call that does all that
+//! the program does.
 #![tactic(auto)]
 
 #[cfg(test)]

@@ -1,6 +1,7 @@
 mod files;
 mod journals;
 mod outside;
+mod read_only;
 mod real;
 mod rows;
 mod run;

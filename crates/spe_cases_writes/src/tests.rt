@@ -1,2 +1,3 @@
 mod chains;
 mod damage;
+mod free_lists;

@@ -1,6 +1,5 @@
 -- Page 1 whose page count becomes valid.
-use Rattle.std.proofs.Common.{◌≡◌, ◌≢◌, ◌⊎◌, ℕ, zero, suc, ◌+◌, ◌-◌, ◌*◌, ◌^◌, ◌<◌, ◌≤◌, ◌∙◌, List, [], ◌∷◌, ◌++◌, take, drop, length, map, refl, sym, ap, subst, arith, append_assoc, true, false, Bool, Some, None, All, ⊎_elim}
-use Rattle.std.specs.Prelude.{◌==◌, ◌&&◌, not}
+use Rattle.std.proofs.Common.{◌≡◌, ◌≢◌, ℕ, zero, suc, ◌+◌, ◌-◌, ◌≤◌, ◌∙◌, List, [], ◌∷◌, ◌++◌, take, drop, length, refl, sym, ap, subst, arith, append_assoc, true, false, Bool, All, ⊎_elim}
 use Rattle.std.specs.List.{flat_map}
 use Rattle.std.proofs.lemmas.Bool.{cases_Bool}
 use Rattle.std.proofs.lemmas.List.{drop-drop, drop_at, length-append, length-drop, length-take-le, take_at}
@@ -8,21 +7,20 @@ use Rattle.std.proofs.lemmas.List.Elements.{All-cons, All-head, All-nil, All-tai
 use Rattle.byteorder.specs.Endian.{big_bytes, big_number}
 use Rattle.byteorder.specs.Numbers.{big_from-take, length-bytes_high_first}
 use Rattle.spe_model.specs.Big.{u32_at}
-use Rattle.spe_model.specs.Database.{Database}
 use Rattle.spe_model.specs.FreeList.{AreTrunks, first_trunks, leaf_count, leaves_of, names_node, next_trunk, trunk_pages}
 use Rattle.spe_model.specs.Paging.{Paging, lay}
 use Rattle.spe_model.specs.Standing.{AreFree, FreeChain, IsFreeChain, IsServer, IsStock, Whether, chain_of_free}
 use Rattle.spe_space.proofs.FrontLemmas.{u32_at-take}
-use Rattle.spe_frame.specs.Times.{AreSame, AreSingle, HoldsOf, Lacks, times}
+use Rattle.spe_frame.specs.Times.{HoldsOf, times}
 use Rattle.spe_frame.proofs.HeadLemmas.{part_alike, take_alike}
-use Rattle.spe_frame.proofs.TimesLemmas.{Each, each_from_holds, each_left, each_right, here, there, times-append}
+use Rattle.spe_frame.proofs.TimesLemmas.{Each, each_from_holds, each_left, each_right, there, times-append}
 use Rattle.spe_rewrite.specs.Changes.{changed}
 use Rattle.spe_convert.specs.Changes.{counted_changes, counted_page}
-use Rattle.spe_convert.specs.Laws.{CountKeeps, StandsWith}
+use Rattle.spe_convert.specs.Laws.{CountKeeps}
 use Rattle.spe_convert.proofs.StayLemmas.{FreeChange, stays}
 use Rattle.spe_convert.proofs.TrunkLemmas.{IsSmall, drop_number, one_at}
-use Rattle.spe_convert.proofs.FrontLemmas.{AreLike, FrontIs}
-use Rattle.spe_convert.proofs.LaidLemmas.{AreApart, front_counts, listed_apart, not_laid, small_count}
+use Rattle.spe_convert.proofs.FrontLemmas.{FrontIs}
+use Rattle.spe_convert.proofs.LaidLemmas.{front_counts, listed_apart, not_laid, small_count}
 use Rattle.spe_convert.proofs.ListLemmas.{none_laid}
 
 number_in : (k : ℕ) (xs ys : List ℕ) → take 60 (drop 32 xs) ≡ take 60 (drop 32 ys) → k + 4 ≤ 60 → u32_at xs (32 + k) ≡ u32_at ys (32 + k)
@@ -31,6 +29,7 @@ number_in k xs ys like low = sym (read xs) ∙ ap (λ (zs : List ℕ). big_numbe
   where
     part : take (60 - k) (drop k (drop 32 xs)) ≡ take (60 - k) (drop k (drop 32 ys))
     part = part_alike k 60 (drop 32 xs) (drop 32 ys) like
+
     read : (zs : List ℕ) → big_number 4 (take (60 - k) (drop k (drop 32 zs))) ≡ big_number 4 (drop (32 + k) zs)
     read zs = big_from-take 0 4 (60 - k) (drop k (drop 32 zs)) (omega (arith, low)) ∙ ap (big_number 4) (drop-drop k 32 zs)
 
@@ -93,8 +92,8 @@ trunks_same usable old new (suc count) trunk each are =
     let rest = trunks_same usable old new count (next_trunk old trunk) (each_right (λ n. new n ≡ old n) (leaves_of old trunk) (trunk_pages old count (next_trunk old trunk)) each.1) are.2 in (
       (are.0, rw number are.1, rw next rest.0),
       ap (λ (ls : List ℕ). trunk ∷ ls ++ trunk_pages new count (next_trunk new trunk)) leaves
-      ∙ ap (λ (n : ℕ). trunk ∷ leaves_of old trunk ++ trunk_pages new count n) next
-      ∙ ap (λ (ps : List ℕ). trunk ∷ leaves_of old trunk ++ ps) rest.1,
+          ∙ ap (λ (n : ℕ). trunk ∷ leaves_of old trunk ++ trunk_pages new count n) next
+          ∙ ap (λ (ps : List ℕ). trunk ∷ leaves_of old trunk ++ ps) rest.1,
     )
 
 lists_same : (usable : ℕ) (old new : Paging) (lists : List FreeChain) → Each (λ n. new n ≡ old n) (flat_map (chain_of_free old) lists) → All (IsFreeChain usable old) lists
@@ -119,33 +118,35 @@ free_same usable old new lists listed first number holds free = ⊎_elim
   where
     same : names_node (new 1) ≡ names_node (old 1)
     same = rw (first, number) refl
+
     server : IsServer usable old lists listed → IsServer usable new lists listed
     server s =
-      let each = subst (Each (λ n. new n ≡ old n)) s.pages_are (each_from_holds (λ n. new n ≡ old n) listed holds) in
-      let kept = lists_same usable old new lists each.1 s.whole in
-      let named : first_trunks new s.node ≡ first_trunks old s.node = rw (each.0) refl in
-      record {
-        node = s.node;
-        node_is = s.node_is ∙ sym first;
-        some = s.some;
-        few = s.few;
-        firsts = s.firsts ∙ sym named;
-        whole = kept.0;
-        started = s.started;
-        pages_are = s.pages_are ∙ ap (λ (ps : List ℕ). s.node ∷ ps) (sym kept.1);
-      }
+        let each = subst (Each (λ n. new n ≡ old n)) s.pages_are (each_from_holds (λ n. new n ≡ old n) listed holds) in
+        let kept = lists_same usable old new lists each.1 s.whole in
+        let named : first_trunks new s.node ≡ first_trunks old s.node = rw (each.0) refl in
+        record {
+          node = s.node;
+          node_is = s.node_is ∙ sym first;
+          some = s.some;
+          few = s.few;
+          firsts = s.firsts ∙ sym named;
+          whole = kept.0;
+          started = s.started;
+          pages_are = s.pages_are ∙ ap (λ (ps : List ℕ). s.node ∷ ps) (sym kept.1);
+        }
+
     stock : IsStock usable old lists listed → IsStock usable new lists listed
     stock s =
-      let each = subst (Each (λ n. new n ≡ old n)) s.pages_are (each_from_holds (λ n. new n ≡ old n) listed holds) in
-      let kept = trunks_same usable old new s.only.trunks s.only.first each s.whole in
-      record {
-        only = s.only;
-        one = s.one;
-        first = s.first ∙ sym first;
-        whole = kept.0;
-        counted = ap length kept.1 ∙ s.counted ∙ sym number;
-        pages_are = s.pages_are ∙ sym kept.1;
-      }
+        let each = subst (Each (λ n. new n ≡ old n)) s.pages_are (each_from_holds (λ n. new n ≡ old n) listed holds) in
+        let kept = trunks_same usable old new s.only.trunks s.only.first each s.whole in
+        record {
+          only = s.only;
+          one = s.one;
+          first = s.first ∙ sym first;
+          whole = kept.0;
+          counted = ap length kept.1 ∙ s.counted ∙ sym number;
+          pages_are = s.pages_are ∙ sym kept.1;
+        }
 
 pub count_keeps : CountKeeps
 count_keeps size usable count pages db free with =
@@ -168,12 +169,14 @@ count_keeps size usable count pages db free with =
     } in
     let after = stays usable count count pages new db with.stands with.stands.lists with.stands.listed [] change
     (free_same usable pages new with.stands.lists with.stands.listed is.first_is is.free_is holds with.stands.free) in
-    let counts = front_counts size usable count count (u32_at (pages 1) 32) (u32_at (pages 1) 36) pages new with.header with.legal with.size_is with.used with.long is apart.some with.few in
-    (rw (is.first_is, is.free_is) refl, record {
-      header = counts.header;
-      front = counts.front;
-      size_is = counts.size_is;
-      used = counts.used;
-      stands = after.0;
-      free_are = λ n. with.free_are n ∙ ap (times n) (sym after.1);
-    })
+    let counts = front_counts size usable count count (u32_at (pages 1) 32) (u32_at (pages 1) 36) pages new with.header with.legal with.size_is with.used with.long is apart.some with.few in (
+      rw (is.first_is, is.free_is) refl,
+      record {
+        header = counts.header;
+        front = counts.front;
+        size_is = counts.size_is;
+        used = counts.used;
+        stands = after.0;
+        free_are = λ n. with.free_are n ∙ ap (times n) (sym after.1);
+      },
+    )

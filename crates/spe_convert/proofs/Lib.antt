@@ -10,3 +10,4 @@ pub mod PrepareLemmas
 pub mod ReadLemmas
 pub mod FoundLemmas
 pub mod CountLemmas
+pub mod StockLemmas

@@ -10,9 +10,11 @@ mod fault;
 mod free;
 mod law;
 mod page;
+mod stock;
 mod trunks;
 
 pub use fault::ConvertFault;
 pub use free::read_free;
 pub use law::lists_keep;
 pub use page::{counted_page, front_page, node_page, trunk_page};
+pub use stock::chain_changes;

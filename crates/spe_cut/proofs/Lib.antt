@@ -12,3 +12,6 @@ pub mod NeedLemmas
 pub mod PartLemmas
 pub mod RoomLemmas
 pub mod LoopLemmas
+pub mod SpanLemmas
+pub mod ShortLemmas
+pub mod LegalLemmas

@@ -286,3 +286,8 @@ interior_answer usable right low_right high_right most count at total cells list
     let cut = interior_cut usable most count at total cells wide is.cells over few (total_is ∙ ap (need TableInterior) list_is) share
     (count_is ∙ ap (count_within TableInterior most) list_is) (at_is ∙ ap (λ (xs : List Cell). min count (length xs - 2)) list_is) in
     halved usable right low_right high_right at cells low high middle key is cut (low_is ∙ ap (take at) items_is) (high_is ∙ ap (drop (at + 1)) items_is) (sym items_is ∙ joined) child key_is last
+
+-- no cut of the cells, as they are seen in another list
+pub none_so : (most most' : ℕ) (list cells : List Cell) → most ≡ most' → list ≡ cells → ((at : ℕ) → ¬ IsCutAt most list at) → (at : ℕ) → ¬ IsCutAt most' cells at
+none_so most most' list cells most_is list_is none at cut =
+    none at (subst (λ (n : ℕ). IsCutAt n list at) (sym most_is) (subst (λ (xs : List Cell). IsCutAt most' xs at) (sym list_is) cut))

@@ -3,7 +3,7 @@ use Rattle.std.proofs.Common.{◌≡◌, ℕ, ◌+◌, ◌-◌, ◌*◌, ◌/◌
 use Rattle.std.specs.Prelude.{◌==◌, ◌^◌, nat_le, nat_lt, if◌then◌else◌, unwrap_or}
 use Rattle.std.specs.List.{find}
 use Rattle.std.specs.Int.{w64, cast_unsigned}
-use Rattle.std.proofs.lemmas.Bool.{cases_Bool, leb-true}
+use Rattle.std.proofs.lemmas.Bool.{cases_Bool, eqb-true, leb-true}
 use Rattle.spe_model.specs.declared.page.Cell.{Cell}
 use Rattle.spe_model.specs.declared.page.Kind.TheVariants.{TableInterior, TableLeaf}
 use Rattle.spe_model.specs.Kind.{least_local, local_of}
@@ -32,7 +32,16 @@ spelled_short len value few = elim (cases_Bool (len == 9)) [
   | inr other ↦ rw other (let long = groups_long (len - 1) (value / 128) (value % 128) in omega (arith, long, few))
 ]
 
-varint_short : (value : ℕ) → length (varint_bytes value) ≤ 9
+spelled_long : (len value : ℕ) → 1 ≤ len → length (if len == 9 then groups 8 (value / 256) ++ (value % 256) ∷ [] else groups (len - 1) (value / 128) ++ (value % 128) ∷ []) ≡ len
+spelled_long len value some = elim (cases_Bool (len == 9)) [
+  | inl nine ↦ rw nine (let long = groups_long 8 (value / 256) (value % 256) in let is = eqb-true len 9 nine in omega (arith, long, is))
+  | inr other ↦ rw other (let long = groups_long (len - 1) (value / 128) (value % 128) in omega (arith, long, some))
+]
+
+pub varint_long : (value : ℕ) → 1 ≤ varint_length value → length (varint_bytes value) ≡ varint_length value
+varint_long value some = spelled_long (varint_length value) value some
+
+pub varint_short : (value : ℕ) → length (varint_bytes value) ≤ 9
 varint_short value = spelled_short (varint_length value) value (few_bytes value)
 
 chain_short : (c : Cell) → length (chain_bytes c) ≤ 4
@@ -43,7 +52,7 @@ no_chain : (c : Cell) → length c.local ≡ 0 → c.payload ≡ 0 → length (c
 unfolding chain_bytes
 no_chain c local payload = rw (local, payload) refl
 
-cell_parts : (one two three four five : List ℕ)
+pub cell_parts : (one two three four five : List ℕ)
     → length (one ++ (two ++ (three ++ (four ++ five)))) ≡ length one + (length two + (length three + (length four + length five)))
 cell_parts one two three four five = rw (length-append one, length-append two, length-append three, length-append four) refl
 

@@ -1,11 +1,16 @@
 //! Laws of trees in which a child became a run of children.
 
+ghost use Rattle.std.specs.Prelude.{◌≡◌, ◌≤◌, Ok, take};
+ghost use Rattle.spe_model.specs.Page.{page_at};
+ghost use Rattle.spe_cut.specs.Parts.{need, room};
 ghost use Rattle.spe_cut.specs.Child.{AboveCells, ChildBecomesRun, ChildOfRun, RowOfChild};
 ghost use Rattle.spe_cut.specs.Depth.{FilledTreeIsWide, RootStaysLow, SingleTreeIsWide};
 ghost use Rattle.spe_cut.specs.Leaf.{PartsAreRun};
 ghost use Rattle.spe_cut.specs.Rows.{CellAddsRow, KeptRowsStay, RowIsPut, RowIsThere, RowsAscend, RunAscends};
 ghost use Rattle.spe_cut.specs.Run.{HolderOfRun, KeptRunStays, RunOfHolder};
 ghost use Rattle.spe_cut.specs.Split.{HalvesArePair, RunIsCut};
+
+use spe_model::PageCells;
 
 /// A page that holds a run is a tree one level higher, and such a tree's root holds one. A run whose
 /// pages keep their bytes stays as it is, and its keys ascend.
@@ -49,4 +54,10 @@ pub fn depth_law()
     ensures filled { FilledTreeIsWide }
     ensures single { SingleTreeIsWide }
     ensures low { RootStaysLow }
+{}
+
+/// The cells of a legal page fit such a page in the one form that is written.
+pub fn legal_fits(cells: &PageCells, page: &[u8], at: usize, usable: usize)
+    requires { page_at (take usable page.now) at ≡ Ok cells.now }
+    ensures { need cells.now.kind cells.now.cells ≤ room cells.now.kind at usable }
 {}

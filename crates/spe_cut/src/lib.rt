@@ -8,5 +8,5 @@
 mod law;
 mod parts;
 
-pub use law::{child_law, depth_law, leaf_law, root_law, row_law, split_law};
+pub use law::{child_law, depth_law, leaf_law, legal_fits, root_law, row_law, split_law};
 pub use parts::{CellParts, Halves, interior_parts, leaf_parts, room_law, room_of};

@@ -1,6 +1,6 @@
 //! The cells of a page, cut over several pages.
 
-ghost use Rattle.std.specs.Prelude.{◌≡◌, ◌+◌, ◌*◌, ◌/◌, ◌^◌, ◌<◌, ◌≤◌, ◌⊎◌, ◌∷◌, ◌++◌, [], ℕ, length, take, drop, IfOk, OnOk, IfSome, IfNone, SomeIff};
+ghost use Rattle.std.specs.Prelude.{◌≡◌, ◌+◌, ◌*◌, ◌/◌, ◌^◌, ◌<◌, ◌≤◌, ◌⊎◌, ◌∷◌, ◌++◌, [], ℕ, false, length, take, drop, IfOk, OnOk, IfSome, IfNone, SomeIff};
 ghost use Rattle.spe_format.specs.Canonical.{IsWritable};
 ghost use Rattle.spe_cut.specs.Parts.{AreLeaves, IsHalved, RunIsWritable, RunTakesRoom, SeparatorIsWritable, leaf_cells, need, room, run_cells, without};
 ghost use Rattle.spe_cut.specs.Place.{IsCutAt, IsParted, count_within, part_of, parts_at};
@@ -132,6 +132,7 @@ fn cut_place(cells: &[Cell], total: usize, most: usize, at_end: bool) -> Option<
     requires over { most < total }
     requires few { total < 2 ^ 32 }
     ensures fits { IfSome result (IsCutAt most cells.now) }
+    ensures none { at_end ≡ false → IfNone result ((at : ℕ) → ¬ IsCutAt most cells.now at) }
 {
     if at_end {
         return None;
@@ -251,6 +252,7 @@ pub fn leaf_parts(
     requires writable { IsWritable (leaf_cells cells) usable }
     requires fits { need Kind.TableLeaf (without place cells) ≤ room Kind.TableLeaf 0 usable }
     ensures parts { IfOk result (AreLeaves usable cells) }
+    ensures three { IfOk result (λ parts. at_end ≡ false → length parts ≡ 3 → (at : ℕ) → ¬ IsCutAt (room Kind.TableLeaf 0 usable) cells at) }
     ensures whole { IfOk result (λ parts. need Kind.TableLeaf cells ≤ room Kind.TableLeaf 0 usable → parts ≡ cells ∷ []) }
 {
     let list = cells.as_slice();

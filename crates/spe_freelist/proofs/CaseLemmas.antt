@@ -70,7 +70,7 @@ beside_same old new first listed legal same stays = record {
   stays = stays;
 }
 
-ok_is : {T E : Type 0} (r : Result T E) → IsOk r → (x : T) × (r ≡ Ok x)
+pub ok_is : {T E : Type 0} (r : Result T E) → IsOk r → (x : T) × (r ≡ Ok x)
 ok_is (Ok x) is = (x, refl)
 ok_is (Err e) is = absurd cc
 

@@ -6,3 +6,5 @@ pub mod RelistLemmas
 pub mod CaseLemmas
 pub mod TakeLemmas
 pub mod PlaceLemmas
+pub mod LikelyLemmas
+pub mod LaidLemmas

@@ -1,5 +1,5 @@
 -- The free lists of a database in server form that a call finds and leaves, at a bound `P: Pages`.
-use Rattle.std.specs.Prelude.{◌≡◌, ℕ, ◌+◌, true, List, ◌∷◌, ◌++◌, take, unwrap_or, All, IsOk, Result, IfErr}
+use Rattle.std.specs.Prelude.{◌≡◌, ◌⊎◌, ◌<◌, ℕ, ◌+◌, true, List, ◌∷◌, ◌++◌, take, unwrap_or, All, IsOk, Result, IfErr}
 use Rattle.spe_model.specs.FreeList.{names_node}
 use Rattle.spe_model.specs.Header.{header_of}
 use Rattle.spe_model.specs.Paging.{Paging}
@@ -56,6 +56,10 @@ pub record Takes {P : Type 0} (g : Ghosts P) (old new : P) (pages : Paging) (fir
   pub left : LeavesLists g old new pages first place (taken (number_in (sight g old pages)) (trunks_of g old pages place))
   pub page_is : page ≡ unwrap_or (next_free (trunks_of g old pages place)) (number_in (sight g old pages) + 1)
   pub gone : Lacks left.listed page
+
+-- the pages that are put when one is taken: the first trunk, page 1, and new pages
+abbrev pub IsForTaking : {P : Type 0} (g : Ghosts P) (s : P) → Paging → (first n : ℕ) → Type 0
+IsForTaking g s pages first n = (n ≡ first) ⊎ ((n ≡ 1) ⊎ (number_in (sight g s pages) < n))
 
 -- a page that may be given: there is one, and it is not page 1, nor the node, nor in a list
 pub record MayBeGiven {P : Type 0} (g : Ghosts P) (s : P) (pages : Paging) (first page : ℕ) (place : Place g s pages first) : Type 0 where

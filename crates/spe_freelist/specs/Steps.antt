@@ -4,7 +4,7 @@ use Rattle.spe_model.specs.Big.{u32_at}
 use Rattle.spe_model.specs.FreeList.{leaf_count, leaves_of, next_trunk}
 use Rattle.spe_model.specs.Paging.{Agrees, Paging}
 use Rattle.spe_space.specs.declared.fault.SpaceFault.{SpaceFault}
-use Rattle.spe_space.specs.declared.fault.SpaceFault.TheVariants.{Memory}
+use Rattle.spe_space.specs.declared.fault.SpaceFault.TheVariants.{Full, Memory}
 use Rattle.spe_space.specs.declared.fault.TreeFault.{TreeFault}
 use Rattle.spe_space.specs.declared.fault.TreeFault.TheVariants.{Space, Corrupt}
 use Rattle.spe_space.specs.declared.pages.Pages.{Ghosts}
@@ -149,3 +149,12 @@ GivesNot g old new first page fault =
     ⊎ (FitsGet (g.count new) first fault
     ⊎ (Fits (g.sealed old) (g.count new) (FitsPut (g.count new) page) fault
     ⊎ Fits (g.sealed old) (g.count new) (FitsPut (g.count new) first) fault))
+
+-- the first trunk has no leaf, and names no trunk behind it
+abbrev pub HasNone : Paging → (first : ℕ) → Type 0
+HasNone pages first = (leaf_count pages first ≡ 0) × (next_trunk pages first ≡ 0)
+
+-- what holds of the number that Full names
+abbrev pub OnFullOf : (ℕ → Type 0) → SpaceFault → Type 0
+OnFullOf What (Full pages) = What pages
+OnFullOf What _ = Unit {0}

@@ -6,9 +6,11 @@ ghost use Rattle.spe_model.specs.Paging.{Agrees, Paging};
 ghost use Rattle.spe_space.specs.Calls.{Keeps, RefusesTree, sight};
 ghost use Rattle.spe_space.specs.declared.fault.SpaceFault.TheVariants.{Memory};
 ghost use Rattle.spe_space.specs.Free.{DifferAt};
+ghost use Rattle.spe_space.specs.Outcome.{IsFull};
+ghost use Rattle.spe_space.specs.Space.{FrontStays};
 ghost use Rattle.spe_freelist.specs.Lists.{freed};
-ghost use Rattle.spe_freelist.specs.Place.{LeavesLists, ListsStay, MayBeGiven, Takes, WhereListed, trunks_of};
-ghost use Rattle.spe_freelist.specs.Steps.{GivesNot, IsDamaged, IsTrunkOf, OnFault, TakesNot};
+ghost use Rattle.spe_freelist.specs.Place.{IsForTaking, IsLikelyOfTree, LeavesLists, ListsStay, MayBeGiven, Takes, WhereListed, trunks_of};
+ghost use Rattle.spe_freelist.specs.Steps.{Gave, GivesNot, HasNone, IsDamaged, IsTrunkOf, OnFault, OnFullOf, TakesNot, Took};
 ghost use Rattle.spe_freelist.specs.Trunk.{most_leaves};
 
 use crate::give::give;
@@ -30,10 +32,22 @@ pub fn alloc<S: Pages>(alloc: Global, space: &mut S, first: u32) -> Result<u32, 
         Takes S.Pages space.old space.new pages first page place)) }
     ensures stay { OnErr result (WhereListed S.Pages space.old space.new first (λ pages place.
         ListsStay S.Pages space.old space.new pages first place)) }
+    ensures likely { WhereListed S.Pages space.old space.new first (λ pages place.
+        S.Pages.sealed space.old ≡ false → IsLikelyOfTree S.Pages space.new pages result) }
+    ensures laid { WhereListed S.Pages space.old space.new first (λ pages place.
+        DifferAt (S.Pages.laid space.old) (S.Pages.laid space.new) (IsForTaking S.Pages space.old pages first)) }
+    ensures front { WhereListed S.Pages space.old space.new first (λ pages place.
+        FrontStays S.Pages space.old space.new pages) }
+    ensures full { IfErr result (OnFault (OnFullOf (λ full. S.Pages.sealed space.old ≡ false
+        → (pages : Paging) → Agrees pages (S.Pages.seen space.new)
+        → HasNone (sight S.Pages space.old pages) first
+        × IsFull (S.Pages.count space.new) (S.Pages.limit space.old) full)) (λ at. Unit {0})) }
+    ensures put { IfOk result (λ page. (pages : Paging) → Agrees pages (S.Pages.seen space.new)
+        → Took S.Pages space.old space.new pages first page) }
     ensures seen { (pages : Paging) → Agrees pages (S.Pages.seen space.new)
         → DifferAt (S.Pages.seen space.old) (S.Pages.seen space.new)
         (IsTrunkOf (sight S.Pages space.old pages) first) }
-    ensures damage { IfErr result (OnFault (TakesNot S.Pages space.old space.new first)
+    ensures fault { IfErr result (OnFault (TakesNot S.Pages space.old space.new first)
         (λ at. (pages : Paging) → Agrees pages (S.Pages.seen space.new)
         → IsDamaged (S.Pages.used space.old) (sight S.Pages space.old pages) first at)) }
     ensures known { (n : ℕ) → IsSome (S.Pages.laid space.old n) → S.Pages.seen space.new n ≡ S.Pages.seen space.old n }
@@ -64,8 +78,15 @@ pub fn free<S: Pages>(alloc: Global, space: &mut S, first: u32, page: u32) -> Re
     ensures stay { OnErr result (WhereListed S.Pages space.old space.new first (λ pages place.
         MayBeGiven S.Pages space.old pages first page place
         → ListsStay S.Pages space.old space.new pages first place)) }
+    ensures likely { WhereListed S.Pages space.old space.new first (λ pages place.
+        S.Pages.sealed space.old ≡ false → MayBeGiven S.Pages space.old pages first page place
+        → IsLikelyOfTree S.Pages space.new pages result) }
+    ensures laid { (pages : Paging) → Agrees pages (S.Pages.seen space.new)
+        → DifferAt (S.Pages.laid space.old) (S.Pages.laid space.new) (λ n. (n ≡ first) ⊎ (n ≡ page)) }
+    ensures put { OnOk result ((pages : Paging) → Agrees pages (S.Pages.seen space.new)
+        → Gave S.Pages space.old space.new pages first page) }
     ensures only { (n : ℕ) → n ≢ first → S.Pages.seen space.new n ≡ S.Pages.seen space.old n }
-    ensures damage { IfErr result (OnFault (GivesNot S.Pages space.old space.new first page)
+    ensures fault { IfErr result (OnFault (GivesNot S.Pages space.old space.new first page)
         (λ at. (at ≡ first) × ((pages : Paging) → Agrees pages (S.Pages.seen space.new)
         → most_leaves (S.Pages.used space.old) < leaf_count (sight S.Pages space.old pages) first))) }
     ensures known { (n : ℕ) → IsSome (S.Pages.laid space.old n) → S.Pages.seen space.new n ≡ S.Pages.seen space.old n }

@@ -2,12 +2,11 @@
 use Rattle.std.proofs.Common.{◌≡◌, ℕ, ◌-◌, ◌≤◌, length, take, drop, get_or, arith, List, [], ◌∷◌, ◌++◌, refl, sym, ap, subst, ◌∙◌, Option, Some, None, append_assoc, ◌⊎◌, inl, inr, Result, Ok, Err, OnErr}
 use Rattle.std.proofs.lemmas.List.{append-nil, take_all}
 use Rattle.spe_model.specs.declared.file.FileNo.{FileNo}
-use Rattle.spe_model.specs.Content.{Content}
 use Rattle.spe_model.specs.Trace.{History, IsCut, IsTorn, Operation, after, present}
 use Rattle.spe_model.specs.Trace.Operation.{Write, Cut}
 use Rattle.spe_disk.specs.Told.{Adds}
 use Rattle.spe_crash.proofs.TraceLemmas.{after-append}
-use Rattle.spe_rewrite.specs.Told.{AddsCut, Makes}
+use Rattle.spe_rewrite.specs.Told.{AddsCut}
 
 pub Adds-nothing : (told : Option History) → Adds told told []
 Adds-nothing None = refl
@@ -111,11 +110,6 @@ failed_cut old new file size (inr adds) = record { made = Cut file size ∷ []; 
 pub OnErr-any : {X E : Type 0} (result : Result X E) {P : Type 0} → P → OnErr result P
 OnErr-any (Ok x) p = tt
 OnErr-any (Err e) p = p
-
--- operations that do not look at the files
-pub makes_told : (old new : Option History) (ops : Content → List Operation) → ((h : History) → old ≡ Some h → Adds old new (ops (present h))) → (old ≡ None → new ≡ None) → Makes old new ops
-makes_told None new ops some none = none refl
-makes_told (Some h) new ops some none = some h refl
 
 -- a list whose first element was taken off
 pub taken_off : {X : Type 0} (left : List X) (x : X) → 1 ≤ length left → x ≡ get_or left 0 x → left ≡ x ∷ take (length left - 1) (drop 1 left)

@@ -71,10 +71,6 @@ module _ (size count nonce : ℕ) (changes : List Change) (some : 1 ≤ length c
   abbrev pub saves_of : Paging → List Operation
   saves_of old = savings old size nonce 0 (old_changes count changes)
 
-  pub none_left : (told : Option History) → Leaves told told all_of all_of
-  none_left None = refl
-  none_left (Some h) = left_first (Some h) (all_of (present h))
-
   pub head_made : (old new : Option History) → Makes old new (λ content. heading size count nonce ∷ []) → Leaves old new all_of (λ content. saves_of (file_page content) ++ endings size changes)
   head_made None new makes = makes
   head_made (Some h) new makes = left_next (Some h) (Some h) new _ _ _ _ (whole_is (file_page (present h)) size count nonce changes some) makes (left_first (Some h) (all_of (present h)))

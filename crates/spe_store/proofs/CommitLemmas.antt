@@ -37,7 +37,7 @@ use Rattle.spe_store.specs.Event.Event.{Broken, Committed}
 use Rattle.spe_store.specs.Opened.{Opened}
 use Rattle.spe_store.specs.Served.{AreKept, AreLeft, Entry, Says, asked_of, commit_of, commits_of, pages_of, rows_from}
 use Rattle.spe_store.specs.Store.{AreListed, AreSeen, IfTold, IsOrder, IsServing, IsStored, NeverFall, Order, Store, due_count, pages_in}
-use Rattle.spe_store.specs.Work.{IsIdle}
+use Rattle.spe_store.specs.Work.{HasEnded}
 use Rattle.spe_store.proofs.EndLemmas.{bare_ends_now, bare_journal, committing, end_done, ended_ends, ended_size}
 use Rattle.spe_store.proofs.HeldLemmas.{added, broke_held, due_less, due_some, goes, listed, order_later}
 use Rattle.spe_store.proofs.ServedLemmas.{commits_long, commits_more, says_last, says_now, work_more}
@@ -167,7 +167,7 @@ module _ (opened : Opened) (s : Store) (works : List Work) (order : Order) (i : 
 
   -- the cut failed: whether it was made is not known
   pub commit_broken : (n : ℕ) → Breaks s.desk desk (cut_of id) n → IsStored opened (record { desk = desk; events = Broken id session n log ∷ s.events; page_size = s.page_size; count = s.count }) works order
-  commit_broken n b = broke_held opened s works order i desk (cut_of id) (Broken id session n log ∷ s.events) refl n b
+  commit_broken n b = broke_held opened s works order i desk (cut_of id) (Broken id session n log ∷ s.events) refl refl n b
       (λ h told v. inl v.kept.stops)
       (λ h told v part left now_told.
       ⊎_elim
@@ -179,7 +179,7 @@ module _ (opened : Opened) (s : Store) (works : List Work) (order : Order) (i : 
       b.number)
       works i.all i.room
 
-  module _ (alone : LeavesSeen s id) (idle : Work) (is_idle : IsIdle idle) (ops : ℕ) (now_is : ops ≡ desk.ops) (counts : Counts desk.told desk.stopped ops) (count : ℕ) (count_is : count ≡ unwrap_or w.own s.count)
+  module _ (alone : LeavesSeen s id) (idle : Work) (is_idle : HasEnded w idle) (ops : ℕ) (now_is : ops ≡ desk.ops) (counts : Counts desk.told desk.stopped ops) (count : ℕ) (count_is : count ≡ unwrap_or w.own s.count)
       (lives : lives_in s.events id ≡ true) (list : Order) (room : order.room ≤ list.room + 1)
       (rows : list.rows ≡ order.rows ++ record { client = log.client; tx = log.tx; number = length order.rows + 1; ops = ops } ∷ []) where
     cut_serves : Does s.desk desk (cut_of id) → AreListed s.page_size s.events works → (h : History) → s.desk.told ≡ Some h → IsServing opened h s.events s.page_size s.count works

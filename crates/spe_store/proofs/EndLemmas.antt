@@ -18,16 +18,16 @@ use Rattle.spe_transactions.proofs.WorksLemmas.{dropped_other, dropped_own, stil
 use Rattle.spe_store.specs.declared.stop.Stop.{Stop}
 use Rattle.spe_store.specs.declared.work.Work.{Work}
 use Rattle.spe_store.specs.Desk.{Desk, Does, TriesIf}
-use Rattle.spe_store.specs.Event.{Event, broken_in, entries_in, journalled_in, lives_in, open_in, written_in}
+use Rattle.spe_store.specs.Event.{Event, broken_in, entries_in, journalled_in, lives_in, open_in, out_in, written_in}
 use Rattle.spe_store.specs.Event.Event.{Committed, Dropped}
 use Rattle.spe_store.specs.Saved.{saved_at}
 use Rattle.spe_store.specs.Opened.{Opened}
 use Rattle.spe_store.specs.Store.{AreListed, IsEnd, IsListed, IsOrder, IsServing, IsStored, Order, Store, due_count, pages_in}
-use Rattle.spe_store.specs.Call.{IsUndone}
+use Rattle.spe_store.specs.Call.{CutsIf, IsUndone}
 use Rattle.spe_store.specs.Served.{AreKept}
-use Rattle.spe_store.specs.Work.{IsIdle}
+use Rattle.spe_store.specs.Work.{HasEnded}
 use Rattle.spe_store.specs.declared.log.Log.{Log}
-use Rattle.spe_store.proofs.HeldLemmas.{added, done_held, due_fewer, order_on, part_kept, quiet_held, refused_held, replaced, step_on}
+use Rattle.spe_store.proofs.HeldLemmas.{added, done_held, due_fewer, listed, order_on, part_kept, quiet_held, refused_held, replaced, step_on}
 use Rattle.spe_store.proofs.ListLemmas.{set_length}
 use Rattle.spe_store.proofs.OpenLemmas.{none_end, now_is}
 
@@ -52,11 +52,12 @@ pub record IsEnding (events : List Event) (id : ℕ) (e : Event) : Type 0 where
   pub written : written_in (e ∷ events) ≡ without_id id (written_in events)
   pub shuts : (j : ℕ) → open_in (e ∷ events) j ≡ (if j == id then false else open_in events j)
   pub dies : (j : ℕ) → lives_in (e ∷ events) j ≡ (if j == id then false else lives_in events j)
+  pub stays : (j : ℕ) → out_in (e ∷ events) j ≡ out_in events j
 
 is_none : (found : Option (List ℕ)) → None ≡ found → is_some found ≡ false
 is_none found e = ap is_some (sym e)
 
-module _ (opened : Opened) (s : Store) (works : List Work) (order : Order) (i : IsStored opened s works order) (id : ℕ) (low : id < 16) (w : Work) (found : slice_get works id ≡ Some w) (idle : Work) (is_idle : IsIdle idle) (e : Event) (ending : IsEnding s.events id e) where
+module _ (opened : Opened) (s : Store) (works : List Work) (order : Order) (i : IsStored opened s works order) (id : ℕ) (low : id < 16) (w : Work) (found : slice_get works id ≡ Some w) (idle : Work) (is_idle : HasEnded w idle) (e : Event) (ending : IsEnding s.events id e) where
   abbrev events : List Event
   events = e ∷ s.events
 
@@ -78,6 +79,7 @@ module _ (opened : Opened) (s : Store) (works : List Work) (order : Order) (i : 
         own = was.own ∙ ap (option_map named_count) (sym (written 1));
         begun = was.begun ∙ sym (ending.shuts j ∙ ap (λ (b : Bool). if b then false else open_in s.events j) (ne_eqb j id other));
         due = was.due ∙ sym (ending.dies j ∙ ap (λ (b : Bool). if b then false else lives_in s.events j) (ne_eqb j id other));
+        out = was.out ∙ sym (ending.stays j);
         sized = was.sized;
       })
       (let journalled = λ (p : ℕ). at_all id p (journalled_in events) (without_id id (journalled_in s.events)) ending.journalled ∙ dropped_own id (journalled_in s.events) p in
@@ -88,6 +90,7 @@ module _ (opened : Opened) (s : Store) (works : List Work) (order : Order) (i : 
         own = is_idle.own ∙ ap (option_map named_count) (sym (written 1));
         begun = ap (nat_lt 0) is_idle.end ∙ sym (ending.shuts id ∙ ap (λ (b : Bool). if b then false else open_in s.events id) (eq-eqb id id refl));
         due = is_idle.due ∙ sym (ending.dies id ∙ ap (λ (b : Bool). if b then false else lives_in s.events id) (eq-eqb id id refl));
+        out = is_idle.out ∙ (lists id w found).out ∙ sym (ending.stays id);
         sized = λ p bytes at. absurd (let impossible : None ≡ Some bytes = sym (ap (saved_at p) is_idle.saved) ∙ at in cc);
       })
 
@@ -132,10 +135,10 @@ module _ (opened : Opened) (s : Store) (works : List Work) (order : Order) (i : 
 
 -- a transaction is dropped
 pub dropping : (events : List Event) (id : ℕ) → IsEnding events id (Dropped id)
-dropping es id = record { journalled = refl; written = refl; shuts = λ j. refl; dies = λ j. refl }
+dropping es id = record { journalled = refl; written = refl; shuts = λ j. refl; dies = λ j. refl; stays = λ j. refl }
 
 pub committing : (events : List Event) (id session ops : ℕ) (log : Log) → IsEnding events id (Committed id session ops log)
-committing es id session ops log = record { journalled = refl; written = refl; shuts = λ j. refl; dies = λ j. refl }
+committing es id session ops log = record { journalled = refl; written = refl; shuts = λ j. refl; dies = λ j. refl; stays = λ j. refl }
 
 module _ (opened : Opened) (s : Store) (works : List Work) (order : Order) (i : IsStored opened s works order) (id : ℕ) (low : id < 16) (undone : IsUndone s id) (w : Work) (found : slice_get works id ≡ Some w) (desk : Desk) where
   drops : (h : History) → (v : IsServing opened h s.events s.page_size s.count works) → Makes (present h) (cut_of id) (pages_in opened s.events) (pages_in opened s.events) (without_id id (journalled_in s.events)) (without_id id (written_in s.events))
@@ -149,7 +152,7 @@ module _ (opened : Opened) (s : Store) (works : List Work) (order : Order) (i : 
   drop_order true t = order_on opened s works order i desk (cut_of id) t
   drop_order false t = subst (λ (d : Desk). IsOrder (entries_in s.events) d.ops order) (sym t.1) i.ordered
 
-  pub drop_done : TriesIf (nat_lt 0 w.end) s.desk desk (cut_of id) (Ok tt) → (idle : Work) → IsIdle idle → (at : ℕ) → at ≡ id → (now : List Event) → now ≡ Dropped id ∷ s.events
+  pub drop_done : TriesIf (nat_lt 0 w.end) s.desk desk (cut_of id) (Ok tt) → (idle : Work) → HasEnded w idle → (at : ℕ) → at ≡ id → (now : List Event) → now ≡ Dropped id ∷ s.events
       → IsStored opened (record { desk = desk; events = now; page_size = s.page_size; count = s.count }) (slice_set works at idle) order
   drop_done tried idle is_idle at same after is =
       let end = dropping s.events id in
@@ -177,3 +180,10 @@ module _ (opened : Opened) (s : Store) (works : List Work) (order : Order) (i : 
         sized = v.sized;
         ends = bare_ends_now opened s works order i id low w found idle is_idle (Dropped id) end none h v;
       })))
+
+  pub drop_cuts : s.desk.stopped ≡ None → TriesIf (nat_lt 0 w.end) s.desk desk (cut_of id) (Ok tt) → CutsIf (open_in s.events id) s.desk desk (cut_of id)
+  drop_cuts going tried = subst (λ (b : Bool). CutsIf b s.desk desk (cut_of id)) (listed opened s works order i going id w found).begun (by_end (nat_lt 0 w.end) tried)
+    where
+      by_end : (some : Bool) → TriesIf some s.desk desk (cut_of id) (Ok tt) → CutsIf some s.desk desk (cut_of id)
+      by_end true t = t
+      by_end false t = t

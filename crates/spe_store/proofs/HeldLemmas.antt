@@ -7,6 +7,7 @@ use Rattle.std.proofs.lemmas.List.Elements.{All-cons, All-head, All-nil, All-tai
 use Rattle.spe_model.specs.declared.commit.Commit as model
 use Rattle.spe_model.specs.Content.{Content}
 use Rattle.spe_model.specs.Faults.{Rose}
+use Rattle.spe_model.specs.Paging.{Given}
 use Rattle.spe_model.specs.Trace.{History, IsCut, IsTorn, Operation, present}
 use Rattle.spe_disk.specs.Told.{Adds}
 use Rattle.spe_transactions.specs.Kept.{WorkKept, grown}
@@ -16,10 +17,10 @@ use Rattle.spe_transactions.proofs.GrowthLemmas.{step_kept, stop_kept}
 use Rattle.spe_store.specs.declared.stop.Stop.{Stop}
 use Rattle.spe_store.specs.declared.work.Work.{Work}
 use Rattle.spe_store.specs.Desk.{Breaks, Desk, Does, LeavesPart, Looks, Tries}
-use Rattle.spe_store.specs.Event.{Event, broken_in, entries_in, journalled_in, written_in}
+use Rattle.spe_store.specs.Event.{Event, broken_in, entries_in, journalled_in, seen_in, written_in}
 use Rattle.spe_store.specs.Opened.{Opened}
-use Rattle.spe_store.specs.Served.{AreKept, AreLeft, Entry, Says, commits_of}
-use Rattle.spe_store.specs.Store.{AreListed, IfTold, IsGoing, IsHeld, IsOf, IsOrder, IsServing, IsStored, Order, Store, due_count, pages_in}
+use Rattle.spe_store.specs.Served.{AreKept, AreLeft, Entry, Says, commits_of, pages_of}
+use Rattle.spe_store.specs.Store.{AreListed, AreSeen, IfTold, IsGoing, IsHalted, IsHeld, IsOf, IsOrder, IsServing, IsStored, Order, Store, due_count, pages_in}
 use Rattle.spe_store.proofs.ListLemmas.{get_other, get_set}
 
 -- with one operation more
@@ -144,20 +145,29 @@ module _ (opened : Opened) (s : Store) (works : List Work) (order : Order) (i : 
   Serves h = IsServing opened h s.events s.page_size s.count works
 
   -- an operation failed, and these are the events then
-  module _ (desk : Desk) (o : Operation) (events : List Event) (entries : entries_in events ≡ entries_in s.events) where
+  module _ (desk : Desk) (o : Operation) (events : List Event) (entries : entries_in events ≡ entries_in s.events) (sees : seen_in events ≡ seen_in s.events) where
     abbrev Left : History → Type 0
     Left h = AreLeft opened h (entries_in events) (broken_in events)
 
+    abbrev Halted : History → Type 0
+    Halted h = IsHalted opened h events
+
+    halted : (h now : History) → Serves h → Left now → Halted now
+    halted h now v left = record {
+      left = left;
+      seen = λ id. subst (λ (es : List Entry). AreSeen (pages_of opened es) (seen_in events id)) (sym entries) (subst (λ (f : ℕ → Given). AreSeen (pages_in opened s.events) (f id)) (sym sees) (v.seen id));
+    }
+
     left_stopped : (told now : Option History) → IfTold told Serves → LeavesPart told now o → ((h : History) → told ≡ Some h → Serves h → Left h)
         → ((h : History) → told ≡ Some h → Serves h → (part : Operation) → (part ≡ o) ⊎ IsTorn o part → now ≡ Some (added h part) → Left (added h part))
-        → IfTold now Left
+        → IfTold now Halted
     left_stopped None now serving left same broken = ⊎_elim
-        (λ (is : now ≡ None). subst (λ (t : Option History). IfTold t Left) (sym is) tt)
-        (λ (part : (part : Operation) × ((part ≡ o) ⊎ IsTorn o part) × (now ≡ None)). subst (λ (t : Option History). IfTold t Left) (sym part.2) tt)
+        (λ (is : now ≡ None). subst (λ (t : Option History). IfTold t Halted) (sym is) tt)
+        (λ (part : (part : Operation) × ((part ≡ o) ⊎ IsTorn o part) × (now ≡ None)). subst (λ (t : Option History). IfTold t Halted) (sym part.2) tt)
         left
     left_stopped (Some h) now serving left same broken = ⊎_elim
-        (λ (is : now ≡ Some h). subst (λ (t : Option History). IfTold t Left) (sym is) (same h refl serving))
-        (λ (part : (part : Operation) × ((part ≡ o) ⊎ IsTorn o part) × (now ≡ Some (added h part))). subst (λ (t : Option History). IfTold t Left) (sym part.2) (broken h refl serving part.0 part.1 part.2))
+        (λ (is : now ≡ Some h). subst (λ (t : Option History). IfTold t Halted) (sym is) (halted h h serving (same h refl serving)))
+        (λ (part : (part : Operation) × ((part ≡ o) ⊎ IsTorn o part) × (now ≡ Some (added h part))). subst (λ (t : Option History). IfTold t Halted) (sym part.2) (halted h (added h part.0) serving (broken h refl serving part.0 part.1 part.2)))
         left
 
     pub broke_held : (n : ℕ) → Breaks s.desk desk o n
@@ -181,11 +191,11 @@ module _ (opened : Opened) (s : Store) (works : List Work) (order : Order) (i : 
       → (now : List Work) → length now ≡ 16 → due_count now ≤ order.room → IsStored opened (at desk s.events s.count) now order
   refused_held desk o stop tried broken now all room = ⊎_elim
       (λ (before : (s.desk.stopped ≡ Some stop.op) × (desk ≡ s.desk)).
-      let left : IfTold s.desk.told (λ h. AreLeft opened h (entries_in s.events) (broken_in s.events)) = subst (λ (x : Option ℕ). IsHeld opened x s.desk.told s.events s.page_size s.count works) before.0 i.held in
+      let left : IfTold s.desk.told (λ h. IsHalted opened h s.events) = subst (λ (x : Option ℕ). IsHeld opened x s.desk.told s.events s.page_size s.count works) before.0 i.held in
       subst (λ (d : Desk). IsStored opened (at d s.events s.count) now order) (sym before.1)
       (record { low = i.low; high = i.high; found = i.found; all = all; of = i.of; ordered = i.ordered; room = room; held = subst (λ (x : Option ℕ). IsHeld opened x s.desk.told s.events s.page_size s.count now) (sym before.0) left }))
       (λ (b : Breaks s.desk desk o stop.op).
-      broke_held desk o s.events refl stop.op b
+      broke_held desk o s.events refl refl stop.op b
       (λ h told v. unbroken_left h b.going v.kept.stops)
       (λ h told v part left now_told. unbroken_left (added h part) b.going (broken (listed b.going) h told v part left))
       now all room)

@@ -29,7 +29,7 @@ module _ (opened : Opened) (s : Store) (works : List Work) (order : Order) (i : 
           at_none None e k = k
           at_none (Some b) e k = absurd cc
       by_stop (Some op) None held = tt
-      by_stop (Some op) (Some h) held = left_cut opened h (entries_in s.events) (broken_in s.events) held
+      by_stop (Some op) (Some h) held = left_cut opened h (entries_in s.events) (broken_in s.events) held.left
 
   pub keeps_pages : KeepsPages opened s
   keeps_pages going = by_told s.desk.told (goes opened s works order i going).served

@@ -11,3 +11,4 @@ pub mod LeftLemmas
 pub mod EndLemmas
 pub mod CommitLemmas
 pub mod NewLemmas
+pub mod PoolLemmas

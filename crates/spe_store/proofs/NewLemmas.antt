@@ -141,6 +141,7 @@ module _ (opened : Opened) (works : List Work) (idle : AreIdle works) (page_size
         own = i.own;
         begun = ap (nat_lt 0) i.end;
         due = i.due;
+        out = i.out;
         sized = λ p bytes at. absurd (let impossible : None ≡ Some bytes = sym (ap (saved_at p) i.saved) ∙ at in cc);
       }
 

@@ -73,9 +73,9 @@ module _ (opened : Opened) (s : Store) (works : List Work) (order : Order) (i : 
   lists_now lists = replaced (IsListed s.page_size events) works id fresh (omega (arith, i.all))
       (λ j x other there.
       let was = lists j x there in
-      record { saved = was.saved; changed = was.changed; own = was.own; begun = was.begun ∙ sym (ap (λ (b : Bool). if b then true else open_in s.events j) (ne_eqb j id other)); due = was.due; sized = was.sized })
+      record { saved = was.saved; changed = was.changed; own = was.own; begun = was.begun ∙ sym (ap (λ (b : Bool). if b then true else open_in s.events j) (ne_eqb j id other)); due = was.due; out = was.out; sized = was.sized })
       (let was = lists id w found in
-      record { saved = was.saved; changed = was.changed; own = was.own; begun = sym (ap (λ (b : Bool). if b then true else open_in s.events id) (eq-eqb id id refl)); due = was.due; sized = was.sized })
+      record { saved = was.saved; changed = was.changed; own = was.own; begun = sym (ap (λ (b : Bool). if b then true else open_in s.events id) (eq-eqb id id refl)); due = was.due; out = was.out; sized = was.sized })
 
   serves_now : AreListed s.page_size s.events works → (h : History) → s.desk.told ≡ Some h → (v : IsServing opened h s.events s.page_size s.count works) → IsServing opened (added h op) events s.page_size s.count (slice_set works id fresh)
   serves_now lists h told v =

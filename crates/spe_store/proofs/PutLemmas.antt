@@ -125,6 +125,7 @@ module _ (opened : Opened) (s : Store) (works : List Work) (order : Order) (i : 
           own = was.own ∙ ap (option_map named_count) (sym (same 1));
           begun = was.begun;
           due = was.due;
+          out = was.out;
           sized = was.sized;
         })
         (let was = lists id w found in
@@ -143,6 +144,7 @@ module _ (opened : Opened) (s : Store) (works : List Work) (order : Order) (i : 
           own = own_is x has was.own;
           begun = ap (nat_lt 0) has.end ∙ was.begun;
           due = has.due ∙ was.due;
+          out = has.out ∙ was.out;
           sized = λ p b at. was.sized p b (sym (marked_saved page p true w.saved) ∙ ap (saved_at p) (sym has.saved) ∙ at);
         })
 
@@ -188,6 +190,7 @@ module _ (opened : Opened) (s : Store) (works : List Work) (order : Order) (i : 
           own = was.own ∙ ap (option_map named_count) (sym (same 1));
           begun = was.begun;
           due = was.due;
+          out = was.out;
           sized = was.sized;
         })
         (let was = lists id w found in
@@ -206,6 +209,7 @@ module _ (opened : Opened) (s : Store) (works : List Work) (order : Order) (i : 
           own = own_left x has was.own;
           begun = ap (nat_lt 0) has.end ∙ was.begun;
           due = has.due ∙ was.due;
+          out = has.out ∙ was.out;
           sized = λ p b at. was.sized p b (sym (marked_saved page p false w.saved) ∙ ap (saved_at p) (sym has.saved) ∙ at);
         })
 

@@ -92,7 +92,7 @@ module _ (opened : Opened) (s : Store) (works : List Work) (order : Order) (i : 
       (quiet_held opened s works order i going (Read id page bytes ∷ s.events) s.count works order i.all i.room i.ordered refl
       (λ lists j w found.
       let was = lists j w found in
-      record { saved = was.saved; changed = was.changed; own = was.own; begun = was.begun; due = was.due; sized = was.sized })
+      record { saved = was.saved; changed = was.changed; own = was.own; begun = was.begun; due = was.due; out = was.out; sized = was.sized })
       (λ lists h told v. record { kept = v.kept; seen = seen_now h told v; counted = v.counted; sized = v.sized; ends = v.ends }))
 
 -- how many pages there are for a transaction, as the store has it

@@ -129,7 +129,7 @@ module _ (opened : Opened) (s : Store) (works : List Work) (order : Order) (i : 
     serves_now x has =
         let kept = step_on opened s works order i h v op (with_page id page old (journalled_in s.events)) (written_in s.events) saves in
         record {
-            kept = kept;
+          kept = kept;
           seen = v.seen;
           counted = v.counted;
           sized = v.sized ∙ size_is (present h) (pages_in opened s.events) v.kept.work.recovers ∙ sym (size_is (present (added h op)) (pages_in opened s.events) kept.work.recovers);
@@ -170,6 +170,7 @@ module _ (opened : Opened) (s : Store) (works : List Work) (order : Order) (i : 
         own = was.own;
         begun = was.begun;
         due = was.due;
+        out = was.out;
         sized = was.sized;
       })
       (let was = lists id w found in
@@ -196,6 +197,7 @@ module _ (opened : Opened) (s : Store) (works : List Work) (order : Order) (i : 
         own = has.own ∙ was.own;
         begun = le_lt x.end (omega (arith, has.end)) ∙ sym begun;
         due = has.due ∙ was.due;
+        out = has.out ∙ was.out;
         sized = λ p b at.
             ⊎_elim
             (λ (here : p ≡ page).

@@ -1,5 +1,5 @@
 -- What the calls of a store ask for, and what they answer.
-use Rattle.std.specs.Prelude.{◌≡◌, ◌≢◌, ◌⊎◌, ◌+◌, ◌^◌, ℕ, ◌<◌, ◌≤◌, true, false, ◌==◌, ◌/◌, ◌*◌, ◌-◌, if◌then◌else◌, ◌%◌, Bool, List, [], ◌∷◌, ◌++◌, length, take, Option, Some, None, unwrap_or}
+use Rattle.std.specs.Prelude.{◌≡◌, ◌≢◌, ◌⊎◌, ◌+◌, ◌^◌, ℕ, ◌<◌, ◌≤◌, true, false, not, ◌&&◌, ◌==◌, ◌/◌, ◌*◌, ◌-◌, if◌then◌else◌, ◌%◌, Bool, List, [], ◌∷◌, ◌++◌, length, take, Option, Some, None, unwrap_or}
 use Rattle.std.specs.Option.{option_map}
 use Rattle.spe_model.specs.declared.file.FileNo.TheVariants.{Journal}
 use Rattle.spe_model.specs.Big.{u32_at}
@@ -8,7 +8,7 @@ use Rattle.spe_model.specs.Faults.{Rose}
 use Rattle.spe_model.specs.Header.{is_size_valid}
 use Rattle.spe_model.specs.Journal.{record_bytes}
 use Rattle.spe_model.specs.Recovery.{journal_of}
-use Rattle.spe_model.specs.Rollback.{cut_of}
+use Rattle.spe_model.specs.Rollback.{cut_of, write_of}
 use Rattle.spe_model.specs.Settled.{IsFound, header_in, page_in}
 use Rattle.spe_model.specs.Trace.{History, IsCut, Operation, after, present}
 use Rattle.spe_model.specs.Trace.Operation.{Write}
@@ -22,8 +22,10 @@ use Rattle.spe_store.specs.declared.store.OpenWhy.{OpenWhy}
 use Rattle.spe_store.specs.declared.store.OpenWhy.TheVariants.{Disk, Memory as OutOfMemory}
 use Rattle.spe_store.specs.Desk.{Breaks, Desk, Does, Looks}
 use Rattle.spe_store.specs.declared.log.Log.{Log}
-use Rattle.spe_store.specs.Event.{Event, broken_in, entries_in, journalled_in, open_in, seen_in, written_in}
-use Rattle.spe_store.specs.Event.Event.{Broken, Committed, Journalled, Undone}
+use Rattle.spe_store.specs.declared.stop.BeginFault.{BeginFault}
+use Rattle.spe_store.specs.declared.stop.BeginFault.TheVariants.{Stopped as Halted, Sixteen, Memory as NoMemory}
+use Rattle.spe_store.specs.Event.{Event, broken_in, entries_in, journalled_in, open_in, out_in, seen_in, written_in}
+use Rattle.spe_store.specs.Event.Event.{Begun, Broken, Committed, Journalled, Undone}
 use Rattle.spe_store.specs.Opened.{Opened}
 use Rattle.spe_store.specs.Pass.{AreAlike, Pass}
 use Rattle.spe_store.specs.Saved.{marked}
@@ -208,3 +210,41 @@ pub record IsNew (opened : Opened) (s : Store) : Type 0 where
 abbrev pub IsUnopened : Opened → (faults : ℕ) → OpenWhy → Type 0
 IsUnopened opened faults Disk = Rose opened.faults faults ⊎ (2 ^ 64 ≤ opened.found.ops + 16)
 IsUnopened opened faults OutOfMemory = Unit {0}
+
+-- one page that the transaction journalled and wrote has its old bytes again, or there was none
+pub record HasUndoneOne (old new : Store) (before now : Pass) : Type 0 where
+  pub page : ℕ
+  pub bytes : List ℕ
+  pub saved : journalled_in old.events before.id page ≡ Some bytes
+  pub done : HasDone old new before now (Undone before.id page)
+  pub made : Does old.desk new.desk (write_of old.page_size (record { page = page; content = bytes }))
+
+abbrev pub UndoesOne : (old new : Store) (before now : Pass) → Type 0
+UndoesOne old new before now = ((IsUndone old before.id) × (old.desk.stopped ≡ None) × (new ≡ old) × (now ≡ before)) ⊎ HasUndoneOne old new before now
+
+-- a page was not undone, as an operation failed
+abbrev pub IsStill : (old new : Store) → ℕ → Type 0
+IsStill old new op = HadStopped old new op ⊎ HasHalted old new op
+
+-- an id that is not out, and whose journal is not open
+abbrev pub is_free : List Event → ℕ → Bool
+is_free events id = not (out_in events id) && not (open_in events id)
+
+-- a pass was begun with the lowest id that was free
+pub record HasBegun (old new : Store) (pass : Pass) : Type 0 where
+  pub going : old.desk.stopped ≡ None
+  pub free : is_free old.events pass.id ≡ true
+  pub lowest : (i : ℕ) → i < pass.id → is_free old.events i ≡ false
+  pub done : pass.done ≡ Begun pass.id ∷ []
+  pub same : new ≡ record old { events = Begun pass.id ∷ old.events }
+
+-- why no pass was begun
+abbrev pub IsUnbegun : (old new : Store) → BeginFault → Type 0
+IsUnbegun old new (Halted op) = HadStopped old new op
+IsUnbegun old new Sixteen = (new ≡ old) × (old.desk.stopped ≡ None) × ((i : ℕ) → i < 16 → is_free old.events i ≡ false)
+IsUnbegun old new NoMemory = (new ≡ old) × (old.desk.stopped ≡ None)
+
+-- an event is entered, unless the store has stopped
+abbrev pub EntersIf : Option ℕ → (old new : Store) → Event → Type 0
+EntersIf None old new e = new ≡ record old { events = e ∷ old.events }
+EntersIf (Some op) old new e = new ≡ old

@@ -18,6 +18,7 @@ pub data Event : Type 0 where
   Read : (id page : ℕ) → List ℕ → Event
   Dropped : (id : ℕ) → Event
   Finished : (id : ℕ) → Event
+  Returned : (id : ℕ) → Event
   Committed : (id session ops : ℕ) → Log → Event
   Broken : (id session ops : ℕ) → Log → Event
 
@@ -29,6 +30,13 @@ open_in (Dropped id ∷ es) i = if i == id then false else open_in es i
 open_in (Finished id ∷ es) i = if i == id then false else open_in es i
 open_in (Committed id session ops log ∷ es) i = if i == id then false else open_in es i
 open_in (_ ∷ es) i = open_in es i
+
+-- which ids are handed out
+abbrev pub out_in : List Event → ℕ → Bool
+out_in [] i = false
+out_in (Begun id ∷ es) i = if i == id then true else out_in es i
+out_in (Returned id ∷ es) i = if i == id then false else out_in es i
+out_in (_ ∷ es) i = out_in es i
 
 -- which transactions may still commit: they have begun, and have neither committed nor been rolled back
 abbrev pub lives_in : List Event → ℕ → Bool
@@ -42,6 +50,7 @@ lives_in (_ ∷ es) i = lives_in es i
 -- what each transaction has journalled, as it was before
 abbrev pub journalled_in : List Event → Works
 journalled_in [] = λ i p. None
+journalled_in (Begun id ∷ es) = without_id id (journalled_in es)
 journalled_in (Journalled id page bytes ∷ es) = with_page id page bytes (journalled_in es)
 journalled_in (Dropped id ∷ es) = without_id id (journalled_in es)
 journalled_in (Finished id ∷ es) = without_id id (journalled_in es)
@@ -51,6 +60,7 @@ journalled_in (_ ∷ es) = journalled_in es
 -- what each transaction has written
 abbrev pub written_in : List Event → Works
 written_in [] = λ i p. None
+written_in (Begun id ∷ es) = without_id id (written_in es)
 written_in (Written id page bytes ∷ es) = with_page id page bytes (written_in es)
 written_in (Undone id page ∷ es) = without_page id page (written_in es)
 written_in (Dropped id ∷ es) = without_id id (written_in es)
@@ -68,6 +78,7 @@ without_seen id seen i p = if i == id then [] else seen i p
 -- what each transaction has read of the pages that it had not written
 abbrev pub seen_in : List Event → ℕ → Given
 seen_in [] = λ i p. []
+seen_in (Begun id ∷ es) = without_seen id (seen_in es)
 seen_in (Read id page bytes ∷ es) = if has_page (written_in es) id page then seen_in es else with_seen id page bytes (seen_in es)
 seen_in (Finished id ∷ es) = without_seen id (seen_in es)
 seen_in (Committed id session ops log ∷ es) = without_seen id (seen_in es)
@@ -94,6 +105,7 @@ event_of kind.Undo id page bytes = Undone id page
 event_of kind.Read id page bytes = Read id page bytes
 event_of kind.Drop id page bytes = Dropped id
 event_of kind.Finish id page bytes = Finished id
+event_of kind.Return id page bytes = Returned id
 
 -- the event of a commit, and of one whose cut failed
 abbrev pub end_of : Ending → (id session ops : ℕ) → Log → Event

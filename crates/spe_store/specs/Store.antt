@@ -19,7 +19,7 @@ use Rattle.spe_store.specs.declared.stop.StoreFault.{StoreFault}
 use Rattle.spe_store.specs.declared.stop.StoreFault.TheVariants.{ReadFault, Stopped, PageOut, Memory}
 use Rattle.spe_store.specs.declared.work.Work.{Work}
 use Rattle.spe_store.specs.Desk.{Breaks, Desk, Looks, ReadsPage}
-use Rattle.spe_store.specs.Event.{Event, broken_in, entries_in, journalled_in, lives_in, open_in, seen_in, written_in}
+use Rattle.spe_store.specs.Event.{Event, broken_in, entries_in, journalled_in, lives_in, open_in, out_in, seen_in, written_in}
 use Rattle.spe_store.specs.Opened.{Opened}
 use Rattle.spe_store.specs.Pass.{Pass}
 use Rattle.spe_store.specs.Saved.{changed_at, marked, saved_at}
@@ -43,6 +43,7 @@ pub record IsListed (page_size : ℕ) (events : List Event) (id : ℕ) (w : Work
   pub own : w.own ≡ option_map named_count (written_in events id 1)
   pub begun : nat_lt 0 w.end ≡ open_in events id
   pub due : w.due ≡ lives_in events id
+  pub out : w.out ≡ out_in events id
   pub sized : (p : ℕ) (bytes : List ℕ) → saved_at p w.saved ≡ Some bytes → length bytes ≡ page_size
 
 abbrev pub AreListed : ℕ → List Event → List Work → Type 0
@@ -80,9 +81,14 @@ pub record IsGoing (opened : Opened) (told : Option History) (events : List Even
   pub listed : AreListed page_size events works
   pub served : IfTold told (λ h. IsServing opened h events page_size count works)
 
+-- the files of a store that has stopped
+pub record IsHalted (opened : Opened) (h : History) (events : List Event) : Type 0 where
+  pub left : AreLeft opened h (entries_in events) (broken_in events)
+  pub seen : (id : ℕ) → AreSeen (pages_in opened events) (seen_in events id)
+
 abbrev pub IsHeld : (opened : Opened) → Option ℕ → Option History → List Event → (page_size count : ℕ) → List Work → Type 0
 IsHeld opened None told events page_size count works = IsGoing opened told events page_size count works
-IsHeld opened (Some op) told events page_size count works = IfTold told (λ h. AreLeft opened h (entries_in events) (broken_in events))
+IsHeld opened (Some op) told events page_size count works = IfTold told (λ h. IsHalted opened h events)
 
 -- how many transactions may still commit
 abbrev pub due_count : List Work → ℕ

@@ -1,5 +1,6 @@
 -- What becomes of what a store holds of a transaction.
-use Rattle.std.specs.Prelude.{◌≡◌, ◌+◌, ℕ, ◌==◌, true, false, if◌then◌else◌, List, [], ◌∷◌, ◌++◌, length, All, Option, Some, None}
+use Rattle.std.specs.Prelude.{◌≡◌, ◌+◌, ℕ, ◌==◌, ◌&&◌, not, suc, true, false, if◌then◌else◌, List, [], ◌∷◌, ◌++◌, length, All, Option, Some, None}
+use Rattle.std.specs.Option.{option_map}
 use Rattle.spe_transactions.specs.Pages.{named_count}
 use Rattle.spe_store.specs.declared.work.Work.{Work}
 use Rattle.spe_store.specs.Saved.{marked}
@@ -10,6 +11,23 @@ pub record IsIdle (w : Work) : Type 0 where
   pub own : w.own ≡ None
   pub saved : w.saved ≡ []
   pub due : w.due ≡ false
+  pub out : w.out ≡ false
+
+-- the transaction has ended, and its id is still out or not
+pub record HasEnded (old new : Work) : Type 0 where
+  pub end : new.end ≡ 0
+  pub own : new.own ≡ None
+  pub saved : new.saved ≡ []
+  pub due : new.due ≡ false
+  pub out : new.out ≡ old.out
+
+-- a transaction begins with an id that has none
+pub record HasBegun (old new : Work) : Type 0 where
+  pub end : new.end ≡ 0
+  pub own : new.own ≡ None
+  pub saved : new.saved ≡ []
+  pub due : new.due ≡ true
+  pub out : new.out ≡ true
 
 -- sixteen ids of which none has a transaction
 pub record AreIdle (works : List Work) : Type 0 where
@@ -29,6 +47,7 @@ pub record IsSavedIn (page_size page : ℕ) (bytes : List ℕ) (old new : Work) 
   pub end : new.end ≡ old.end + page_size + 8
   pub own : new.own ≡ old.own
   pub due : new.due ≡ old.due
+  pub out : new.out ≡ old.out
   pub saved : new.saved ≡ old.saved ++ record { page = page; bytes = bytes; changed = false } ∷ []
 
 -- what a transaction is once it has written a page, or has its old bytes back
@@ -37,6 +56,7 @@ pub record HasWritten (page : ℕ) (bytes : List ℕ) (old new : Work) : Type 0 
   pub end : new.end ≡ old.end
   pub own : new.own ≡ own_after page bytes old.own
   pub due : new.due ≡ old.due
+  pub out : new.out ≡ old.out
   pub saved : new.saved ≡ marked page true old.saved
 
 pub record HasUndone (page : ℕ) (old new : Work) : Type 0 where
@@ -44,4 +64,10 @@ pub record HasUndone (page : ℕ) (old new : Work) : Type 0 where
   pub end : new.end ≡ old.end
   pub own : new.own ≡ own_without page old.own
   pub due : new.due ≡ old.due
+  pub out : new.out ≡ old.out
   pub saved : new.saved ≡ marked page false old.saved
+
+-- the first id that is not out, and whose journal is not open
+abbrev pub free_place : List Work → Option ℕ
+free_place [] = None
+free_place (w ∷ ws) = if not w.out && (w.end == 0) then Some 0 else option_map suc (free_place ws)

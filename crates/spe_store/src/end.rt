@@ -9,14 +9,13 @@ use crate::session::{Receipt, SessionSeat};
 use crate::stop::StoreFault;
 use crate::store::Store;
 use crate::story::{Done, Ended};
-use crate::work::Work;
 use spe_disk::Disk;
 
 impl<D: Disk, N: Opening> Store<D, N> {
     ghost use Rattle.std.specs.Prelude.{◌≡◌, ◌⊎◌, ◌+◌, true, length, OnOk, IfOk, IfErr};
     ghost use Rattle.spe_model.specs.Justified.{Justified};
     ghost use Rattle.spe_model.specs.Rollback.{cut_of};
-    ghost use Rattle.spe_store.specs.Call.{CutsIf, HasBroken, HasCommitted, IsTied, IsUndone, LeavesSeen, MayEnd};
+    ghost use Rattle.spe_store.specs.Call.{CutsIf, HasBroken, HasCommitted, HasHalted, IsTied, IsUndone, LeavesSeen, MayEnd};
     ghost use Rattle.spe_store.specs.Event.{entries_in, lives_in, open_in, seen_in, written_in};
     ghost use Rattle.spe_store.specs.Event.Event.{Dropped};
     ghost use Rattle.spe_store.specs.Pass.{OthersStay};
@@ -70,7 +69,7 @@ impl<D: Disk, N: Opening> Store<D, N> {
         let ops = self.desk.ops();
         let number = self.order.push(log.client, log.tx, ops);
         self.count = count;
-        self.works[usize::from(pass.id)] = Work::none(self.alloc);
+        self.works[usize::from(pass.id)].end(self.alloc);
         let ended = Ended {
             ending: Ending::Commit,
             id: pass.id,
@@ -82,5 +81,38 @@ impl<D: Disk, N: Opening> Store<D, N> {
         self.story = self.story.with_end(&ended);
         session.told = number;
         Ok(Receipt { number, ops })
+    }
+
+    /// Drops what the transaction journalled, where nothing is left to undo: cuts its journal, where that is
+    /// open. Answers `Stopped` alone. What it has read stays listed until it has finished.
+    pub fn drop_journal(&mut self, pass: &mut Pass) -> Result<(), StoreFault>
+        requires tied { IsTied self.old pass.old }
+        requires undone { IsUndone self.old pass.old.id }
+        ensures done { OnOk result (HasDone self.old self.new pass.old pass.new (Dropped pass.old.id)) }
+        ensures made { OnOk result (CutsIf (open_in self.old.events pass.old.id) self.old.desk self.new.desk (cut_of pass.old.id)) }
+        ensures refused { IfErr result (λ fault. OnStop fault (λ op. HadStopped self.old self.new op ⊎ HasHalted self.old self.new op)) }
+        ensures pass { IfErr result (λ _. pass.new ≡ pass.old) }
+        ensures tied { IsTied self.new pass.new }
+        ensures others { OthersStay self.new.events self.old.events pass.old.id }
+    {
+        if let Some(op) = self.desk.stopped() {
+            return Err(StoreFault::Stopped { op });
+        }
+        let id = pass.id;
+        let end = self.works[usize::from(id)].end;
+        match cut_journal(&mut self.desk, id, end) {
+            Ok(()) => (),
+            Err(stop) => return Err(StoreFault::Stopped { op: stop.op }),
+        }
+        self.works[usize::from(id)].end(self.alloc);
+        let done = Done {
+            kind: Kind::Drop,
+            id,
+            page: 0,
+            bytes: &[],
+        };
+        pass.story = pass.story.with(&done);
+        self.story = self.story.with(&done);
+        Ok(())
     }
 }

@@ -11,6 +11,7 @@ pub(crate) enum Kind {
     Read,
     Drop,
     Finish,
+    Return,
 }
 
 /// Whether a commit was made, or the cut of its journal failed.

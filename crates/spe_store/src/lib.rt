@@ -14,6 +14,7 @@ mod log;
 mod opening;
 mod order;
 mod pass;
+mod pool;
 mod put;
 mod read;
 mod save;
@@ -26,7 +27,7 @@ mod work;
 
 pub use log::Log;
 pub use opening::Opening;
-pub use pass::{IDS, Pass};
+pub use pass::{IDS, IdSeat, Pass};
 pub use session::{Receipt, SessionSeat};
-pub use stop::StoreFault;
-pub use store::{OpenFault, OpenWhy, Store};
+pub use stop::{BeginFault, StoreFault};
+pub use store::{OpenFault, OpenWhy, Parts, Store};

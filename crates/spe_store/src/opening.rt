@@ -18,11 +18,11 @@ impl Opening for Brand {
     ghost use Rattle.std.specs.Prelude.{[], None};
 
     ghost opened = { record {
-        read = record { usable = 0; catalog = []; trunks = [] };
-        found = record { page_size = 0; reserved = 0; pages = 0; node = None; rolled = 0; ops = 0 };
-        first = None;
-        pages = [];
-        reads = 0;
-        faults = 0
+      read = record { usable = 0; catalog = []; trunks = [] };
+      found = record { page_size = 0; reserved = 0; pages = 0; node = None; rolled = 0; ops = 0 };
+      first = None;
+      pages = [];
+      reads = 0;
+      faults = 0;
     } };
 }

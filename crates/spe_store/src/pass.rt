@@ -27,6 +27,22 @@ impl Model for Pass {
     ghost invariant = { λ p. p.id < 16 };
 }
 
+/// An id whose transaction has finished.
+#[derive(Drop)]
+pub struct IdSeat {
+    pub(crate) id: u8,
+}
+
+impl Model for IdSeat {
+    ghost use Rattle.std.specs.Prelude.{◌<◌, ℕ};
+
+    ghost Value = { ℕ };
+
+    ghost view = { λ s. s.id };
+
+    ghost invariant = { λ s. s.id < 16 };
+}
+
 impl Pass {
     ghost use Rattle.std.specs.Prelude.{◌≡◌, ◌<◌};
 

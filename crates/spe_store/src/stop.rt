@@ -20,6 +20,20 @@ pub enum StoreFault {
     Memory,
 }
 
+/// Why no pass was begun.
+#[derive(Clone, Copy, Debug, PartialEq, Eq, Error)]
+pub enum BeginFault {
+    /// The operation of this number failed, and the store has stopped.
+    #[error("operation {op} on the disk failed")]
+    Stopped { op: u64 },
+    /// No id is free.
+    #[error("sixteen transactions that may write are at work")]
+    Sixteen,
+    /// There is no memory left.
+    #[error("out of memory")]
+    Memory,
+}
+
 /// The operation of this number failed, in this call or in an earlier one.
 #[derive(Clone, Copy, Drop)]
 pub(crate) struct Stop {

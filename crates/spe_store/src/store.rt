@@ -6,7 +6,7 @@ use crate::order::Order;
 use crate::story::Story;
 use crate::work::{Work, no_works};
 use spe_disk::{Disk, Failed};
-use spe_model::Recovered;
+use spe_model::{Commits, Recovered};
 use std::alloc::Global;
 use std::marker::{Model, PhantomData};
 
@@ -24,6 +24,13 @@ pub enum OpenWhy {
 pub struct OpenFault<D: Disk> {
     pub disk: D,
     pub why: OpenWhy,
+}
+
+/// What a store was made of, once it is closed: the disk, and the list of commits.
+#[derive(Drop)]
+pub struct Parts<D: Disk> {
+    pub disk: D,
+    pub order: Commits,
 }
 
 /// What up to sixteen transactions do to the files of a database.
@@ -53,10 +60,11 @@ impl<D: Disk, N: Opening> Store<D, N> {
     ghost use Rattle.std.specs.Prelude.{◌≡◌, ◌≤◌, [], true, None, IfOk, IfErr, length};
     ghost use Rattle.std.specs.Option.{option_map};
     ghost use Rattle.spe_model.specs.Trace.{History};
-    ghost use Rattle.spe_store.specs.Store.{IfTold};
+    ghost use Rattle.spe_store.specs.Store.{IfTold, IsOf, NeverFall};
     ghost use Rattle.spe_model.specs.Settled.{IsWithinLimits};
-    ghost use Rattle.spe_store.specs.Call.{CutsAreServed, HasOpened, IsNew, IsUnopened, KeepsCuts, KeepsPages};
-    ghost use Rattle.spe_store.specs.Event.{entries_in};
+    ghost use Rattle.spe_store.specs.Call.{CutsAreLeft, CutsAreServed, HasOpened, IsNew, IsUnopened, KeepsCuts, KeepsPages};
+    ghost use Rattle.spe_store.specs.Event.{broken_in, entries_in};
+    ghost use Rattle.spe_store.specs.Served.{rows_from};
 
     /// A store over a disk whose files were recovered, with what recovery found. The journals that are absent
     /// are made.
@@ -125,6 +133,24 @@ impl<D: Disk, N: Opening> Store<D, N> {
         ensures { result ≡ self.now.count }
     {
         self.count
+    }
+
+    /// Gives the disk and the list of commits.
+    ///
+    /// At each cut of the trace the recovered pages are those after the commits within it. Where the store has
+    /// stopped at the cut of a commit, this may count as one more.
+    pub fn close(self) -> Parts<D>
+        ensures order { result.order ≡ rows_from 1 (entries_in self.events) }
+        ensures sorted { NeverFall result.order }
+        ensures cuts { IfTold (D.told result.disk) (λ h. CutsAreLeft N.opened h (entries_in self.events) (broken_in self.events)) }
+        ensures disk { IsOf N.opened (record self.desk { told = D.told result.disk; reads = D.read_faults result.disk; faults = D.op_faults result.disk }) }
+        ensures attached { D.attached result.disk ≡ true }
+    {
+        let Store { desk, order, .. } = self;
+        Parts {
+            disk: desk.into_disk(),
+            order: order.into_commits(),
+        }
     }
 
     /// What is so at every time.

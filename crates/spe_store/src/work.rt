@@ -24,13 +24,15 @@ pub(crate) struct Work {
     pub(crate) own: Option<u32>,
     /// It may still commit, and there is room for that in the list of commits.
     pub(crate) due: bool,
+    /// Its id is handed out.
+    pub(crate) out: bool,
     /// The pages that it has journalled.
     pub(crate) saved: SavedPages,
 }
 
 impl Work {
-    ghost use Rattle.std.specs.Prelude.{◌≤◌, length};
-    ghost use Rattle.spe_store.specs.Work.{HasUndone, HasWritten, IsIdle};
+    ghost use Rattle.std.specs.Prelude.{◌≡◌, ◌≤◌, ◌==◌, ◌&&◌, not, length};
+    ghost use Rattle.spe_store.specs.Work.{HasBegun, HasEnded, HasUndone, HasWritten, IsIdle};
 
     /// There is no transaction.
     pub(crate) fn none(alloc: Global) -> Work
@@ -41,8 +43,34 @@ impl Work {
             end: 0,
             own: None,
             due: false,
+            out: false,
             saved: SavedPages::none(alloc),
         }
+    }
+
+    /// Whether its id is not out, and its journal is not open.
+    pub(crate) fn is_free(&self) -> bool
+        ensures { result ≡ not self.now.out && (self.now.end == 0) }
+    {
+        !self.out && self.end == 0
+    }
+
+    /// It has ended.
+    pub(crate) fn end(&mut self, alloc: Global)
+        ensures { HasEnded self.old self.new }
+    {
+        let out = self.out;
+        *self = Work::none(alloc);
+        self.out = out;
+    }
+
+    /// A transaction begins with this id.
+    pub(crate) fn begin(&mut self, alloc: Global)
+        ensures { HasBegun self.old self.new }
+    {
+        *self = Work::none(alloc);
+        self.due = true;
+        self.out = true;
     }
 
     /// It has written a page.

@@ -1,7 +1,7 @@
 //! Keys out of their bounds, and chains of the wrong length.
 
 use super::files::{Case, forest};
-use super::run::expect_check;
+use super::run::expect_checks;
 use std::test::Fail;
 
 // Rule 6.
@@ -89,17 +89,13 @@ static CHAINS: [Case; 10] = [
 #[test]
 fn bounds(rt: HostRuntime) -> Result<(), Fail> {
     let base = forest(rt.alloc())?;
-    for case in &BOUNDS {
-        expect_check(&rt, rt.alloc(), &base, case, 5)?;
-    }
+    expect_checks(&rt, rt.alloc(), &base, &BOUNDS, 5)?;
     Ok(())
 }
 
 #[test]
 fn chains(rt: HostRuntime) -> Result<(), Fail> {
     let base = forest(rt.alloc())?;
-    for case in &CHAINS {
-        expect_check(&rt, rt.alloc(), &base, case, 5)?;
-    }
+    expect_checks(&rt, rt.alloc(), &base, &CHAINS, 5)?;
     Ok(())
 }

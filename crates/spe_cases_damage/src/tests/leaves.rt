@@ -2,7 +2,7 @@
 
 use super::files::{Case, Patch, lay};
 use super::kinds::kinds;
-use super::run::expect_check;
+use super::run::expect_checks;
 use std::test::Fail;
 
 // The leaf 7 has the rows 1 to 5 and the leaf 10 those from 6 on; the file has 13 pages.
@@ -76,11 +76,11 @@ static CHAIN: [Patch; 4] = [
     (6144, b"\x00"),
 ];
 
-static SOUND: Case = (
+static SOUND: [Case; 1] = [(
     "a row with a chain",
     &[],
     "ok pages 13 tables 8 rows 3 free 0\n",
-);
+)];
 
 static CHAINED: [Case; 4] = [
     (
@@ -108,9 +108,7 @@ static CHAINED: [Case; 4] = [
 #[test]
 fn leaves(rt: HostRuntime) -> Result<(), Fail> {
     let base = kinds(rt.alloc())?;
-    for case in &LEAVES {
-        expect_check(&rt, rt.alloc(), &base, case, 5)?;
-    }
+    expect_checks(&rt, rt.alloc(), &base, &LEAVES, 5)?;
     Ok(())
 }
 
@@ -118,9 +116,7 @@ fn leaves(rt: HostRuntime) -> Result<(), Fail> {
 fn chained(rt: HostRuntime) -> Result<(), Fail> {
     let mut base = kinds(rt.alloc())?;
     lay(&mut base, &CHAIN);
-    expect_check(&rt, rt.alloc(), &base, &SOUND, 0)?;
-    for case in &CHAINED {
-        expect_check(&rt, rt.alloc(), &base, case, 5)?;
-    }
+    expect_checks(&rt, rt.alloc(), &base, &SOUND, 0)?;
+    expect_checks(&rt, rt.alloc(), &base, &CHAINED, 5)?;
     Ok(())
 }

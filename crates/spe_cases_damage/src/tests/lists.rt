@@ -1,7 +1,7 @@
 //! Free lists in stock form and in server form.
 
 use super::files::{Case, forest, two};
-use super::run::expect_check;
+use super::run::expect_checks;
 use std::test::Fail;
 
 // Rule 10, and what is next to it.
@@ -114,17 +114,13 @@ static SERVER: [Case; 16] = [
 #[test]
 fn stock(rt: HostRuntime) -> Result<(), Fail> {
     let base = forest(rt.alloc())?;
-    for case in &STOCK {
-        expect_check(&rt, rt.alloc(), &base, case, 5)?;
-    }
+    expect_checks(&rt, rt.alloc(), &base, &STOCK, 5)?;
     Ok(())
 }
 
 #[test]
 fn server(rt: HostRuntime) -> Result<(), Fail> {
     let base = two(rt.alloc())?;
-    for case in &SERVER {
-        expect_check(&rt, rt.alloc(), &base, case, 5)?;
-    }
+    expect_checks(&rt, rt.alloc(), &base, &SERVER, 5)?;
     Ok(())
 }

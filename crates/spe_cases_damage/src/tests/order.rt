@@ -1,7 +1,7 @@
 //! Files in which two rules are broken: the walk breaks off at the first.
 
 use super::files::{Case, forest};
-use super::run::expect_check;
+use super::run::expect_checks;
 use std::test::Fail;
 
 // What is tried first, with the rule that is named and one that is broken too.
@@ -136,8 +136,6 @@ static FIRST: [Case; 21] = [
 #[test]
 fn first(rt: HostRuntime) -> Result<(), Fail> {
     let base = forest(rt.alloc())?;
-    for case in &FIRST {
-        expect_check(&rt, rt.alloc(), &base, case, 5)?;
-    }
+    expect_checks(&rt, rt.alloc(), &base, &FIRST, 5)?;
     Ok(())
 }

@@ -1,9 +1,12 @@
 //! Pages that are not legal, are of another sort than their tree, or stand at another level than they should.
 
 use super::files::{Case, TWO, file_of, forest, lay, put};
-use super::run::{expect, expect_check};
+use super::run::{expect, expect_checks};
 use std::alloc::{AllocError, Global};
+use std::process::Abort;
+use std::sync::Wait;
 use std::test::Fail;
+use std::thread::Threads;
 
 // Rule 3, for each fault of a page.
 static UNREADABLE: [Case; 12] = [
@@ -117,27 +120,21 @@ static LEVELS: [Case; 3] = [
 #[test]
 fn unreadable(rt: HostRuntime) -> Result<(), Fail> {
     let base = forest(rt.alloc())?;
-    for case in &UNREADABLE {
-        expect_check(&rt, rt.alloc(), &base, case, 5)?;
-    }
+    expect_checks(&rt, rt.alloc(), &base, &UNREADABLE, 5)?;
     Ok(())
 }
 
 #[test]
 fn sorts(rt: HostRuntime) -> Result<(), Fail> {
     let base = forest(rt.alloc())?;
-    for case in &SORTS {
-        expect_check(&rt, rt.alloc(), &base, case, 5)?;
-    }
+    expect_checks(&rt, rt.alloc(), &base, &SORTS, 5)?;
     Ok(())
 }
 
 #[test]
 fn levels(rt: HostRuntime) -> Result<(), Fail> {
     let base = forest(rt.alloc())?;
-    for case in &LEVELS {
-        expect_check(&rt, rt.alloc(), &base, case, 5)?;
-    }
+    expect_checks(&rt, rt.alloc(), &base, &LEVELS, 5)?;
     Ok(())
 }
 
@@ -167,18 +164,20 @@ static TOWERS: [(u8, u8, &str); 3] = [
     (22, 5, "damage 26 5\n"),
 ];
 
+fn expect_tower<R: Threads + Wait + Sync + Abort>(
+    rt: &R,
+    alloc: Global,
+    case: &(u8, u8, &str),
+) -> Result<(), AllocError> {
+    let (levels, status, text) = *case;
+    let file = tower(alloc, levels)?;
+    expect(rt, alloc, &["check", "d.db"], &file, (status, text))
+}
+
 #[test]
 fn towers(rt: HostRuntime) -> Result<(), Fail> {
-    for (levels, status, text) in &TOWERS {
-        let file = tower(rt.alloc(), *levels)?;
-        expect(
-            &rt,
-            rt.alloc(),
-            &["check", "d.db"],
-            Some(&file),
-            *status,
-            *text,
-        )?;
+    for case in &TOWERS {
+        expect_tower(&rt, rt.alloc(), case)?;
     }
     Ok(())
 }

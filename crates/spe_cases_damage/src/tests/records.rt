@@ -1,7 +1,7 @@
 //! Records that are none, and rows of the schema that are none.
 
 use super::files::{Case, forest};
-use super::run::expect_check;
+use super::run::expect_checks;
 use std::test::Fail;
 
 // Rule 8.
@@ -110,17 +110,13 @@ static SCHEMA: [Case; 8] = [
 #[test]
 fn records(rt: HostRuntime) -> Result<(), Fail> {
     let base = forest(rt.alloc())?;
-    for case in &RECORDS {
-        expect_check(&rt, rt.alloc(), &base, case, 5)?;
-    }
+    expect_checks(&rt, rt.alloc(), &base, &RECORDS, 5)?;
     Ok(())
 }
 
 #[test]
 fn schema(rt: HostRuntime) -> Result<(), Fail> {
     let base = forest(rt.alloc())?;
-    for case in &SCHEMA {
-        expect_check(&rt, rt.alloc(), &base, case, 5)?;
-    }
+    expect_checks(&rt, rt.alloc(), &base, &SCHEMA, 5)?;
     Ok(())
 }

@@ -1,7 +1,7 @@
 //! Page numbers that name no page of the file, or a page that was met before.
 
 use super::files::{Case, forest};
-use super::run::expect_check;
+use super::run::expect_checks;
 use std::test::Fail;
 
 // Rule 1, by the page that names another.
@@ -123,17 +123,13 @@ static TWICE: [Case; 13] = [
 #[test]
 fn outside(rt: HostRuntime) -> Result<(), Fail> {
     let base = forest(rt.alloc())?;
-    for case in &OUTSIDE {
-        expect_check(&rt, rt.alloc(), &base, case, 5)?;
-    }
+    expect_checks(&rt, rt.alloc(), &base, &OUTSIDE, 5)?;
     Ok(())
 }
 
 #[test]
 fn twice(rt: HostRuntime) -> Result<(), Fail> {
     let base = forest(rt.alloc())?;
-    for case in &TWICE {
-        expect_check(&rt, rt.alloc(), &base, case, 5)?;
-    }
+    expect_checks(&rt, rt.alloc(), &base, &TWICE, 5)?;
     Ok(())
 }

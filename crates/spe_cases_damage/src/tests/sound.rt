@@ -1,7 +1,7 @@
 //! Files that are sound, some of them odd.
 
 use super::files::{Case, forest, two};
-use super::run::expect_check;
+use super::run::expect_checks;
 use std::test::Fail;
 
 // Files with free pages in stock form.
@@ -110,17 +110,13 @@ static SERVER: [Case; 7] = [
 #[test]
 fn stock(rt: HostRuntime) -> Result<(), Fail> {
     let base = forest(rt.alloc())?;
-    for case in &STOCK {
-        expect_check(&rt, rt.alloc(), &base, case, 0)?;
-    }
+    expect_checks(&rt, rt.alloc(), &base, &STOCK, 0)?;
     Ok(())
 }
 
 #[test]
 fn server(rt: HostRuntime) -> Result<(), Fail> {
     let base = two(rt.alloc())?;
-    for case in &SERVER {
-        expect_check(&rt, rt.alloc(), &base, case, 0)?;
-    }
+    expect_checks(&rt, rt.alloc(), &base, &SERVER, 0)?;
     Ok(())
 }

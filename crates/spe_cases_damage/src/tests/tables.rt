@@ -1,10 +1,13 @@
 //! What `rows` prints of open tables, and of which it prints nothing.
 
-use super::files::{Patch, forest, lay, two};
+use super::files::{Patch, forest, two};
 use super::kinds::kinds;
-use super::run::expect;
+use super::run::{expect, with_changes};
 use std::alloc::{AllocError, Global};
+use std::process::Abort;
+use std::sync::Wait;
 use std::test::Fail;
+use std::thread::Threads;
 
 // A table of the file of many kinds, and what is printed of it.
 static KINDS: [(&str, u8, &str); 16] = [
@@ -43,33 +46,44 @@ static KINDS: [(&str, u8, &str); 16] = [
     ("É", 2, "refused no-table\n"),
 ];
 
+fn expect_kind<R: Threads + Wait + Sync + Abort>(
+    rt: &R,
+    alloc: Global,
+    file: &[u8],
+    case: &(&str, u8, &str),
+) -> Result<(), AllocError> {
+    let (table, status, text) = *case;
+    expect(
+        rt,
+        alloc,
+        &["rows", "kinds.db", table],
+        file,
+        (status, text),
+    )
+}
+
 #[test]
 fn tables(rt: HostRuntime) -> Result<(), Fail> {
     let file = kinds(rt.alloc())?;
-    for (table, status, text) in &KINDS {
-        expect(
-            &rt,
-            rt.alloc(),
-            &["rows", "kinds.db", *table],
-            Some(&file),
-            *status,
-            *text,
-        )?;
+    for case in &KINDS {
+        expect_kind(&rt, rt.alloc(), &file, case)?;
     }
-    let text = "ok pages 13 tables 8 rows 3 free 0\n";
-    expect(
-        &rt,
-        rt.alloc(),
-        &["check", "kinds.db"],
-        Some(&file),
-        0,
-        text,
-    )?;
     Ok(())
 }
 
+#[test]
+fn all_tables(rt: HostRuntime) -> Result<(), Fail> {
+    let file = kinds(rt.alloc())?;
+    let text = "ok pages 13 tables 8 rows 3 free 0\n";
+    let words = ["check", "kinds.db"];
+    expect(&rt, rt.alloc(), &words, &file, (0, text))?;
+    Ok(())
+}
+
+type Changed = (&'static str, &'static [Patch], u8, &'static str);
+
 // A change of the file with two tables, in words and in bytes, and what is printed of the table `a` then.
-static CHANGED: [(&str, &[Patch], u8, &str); 15] = [
+static CHANGED: [Changed; 15] = [
     ("as it is", &[], 0, "rows 0\n"),
     (
         "a row",
@@ -154,19 +168,20 @@ static CHANGED: [(&str, &[Patch], u8, &str); 15] = [
     ),
 ];
 
+fn expect_changed<R: Threads + Wait + Sync + Abort>(
+    rt: &R,
+    alloc: Global,
+    case: &Changed,
+) -> Result<(), AllocError> {
+    let (_, patches, status, text) = *case;
+    let file = with_changes(alloc, &two(alloc)?, patches)?;
+    expect(rt, alloc, &["rows", "two.db", "a"], &file, (status, text))
+}
+
 #[test]
 fn changed(rt: HostRuntime) -> Result<(), Fail> {
-    for (_, patches, status, text) in &CHANGED {
-        let mut file = two(rt.alloc())?;
-        lay(&mut file, *patches);
-        expect(
-            &rt,
-            rt.alloc(),
-            &["rows", "two.db", "a"],
-            Some(&file),
-            *status,
-            *text,
-        )?;
+    for case in &CHANGED {
+        expect_changed(&rt, rt.alloc(), case)?;
     }
     Ok(())
 }
@@ -181,42 +196,41 @@ fn put_zeros(alloc: Global, text: &mut String, rowid: u8, bytes: u32) -> Result<
     text.push_str("'\n")
 }
 
-// Trees of two levels, and a payload with a chain of overflow pages.
-#[test]
-fn trees(rt: HostRuntime) -> Result<(), Fail> {
-    let alloc = rt.alloc();
-    let file = forest(alloc)?;
+// What is printed of the table `t`, and of `c`.
+fn five_rows(alloc: Global) -> Result<String, AllocError> {
     let mut text = String::new(alloc);
     for rowid in 1..=5 {
         put_zeros(alloc, &mut text, rowid, 200)?;
     }
     text.push_str("rows 5\n")?;
-    expect(
-        &rt,
-        alloc,
-        &["rows", "d.db", "t"],
-        Some(&file),
-        0,
-        text.as_str(),
-    )?;
+    Ok(text)
+}
+
+fn long_row(alloc: Global) -> Result<String, AllocError> {
     let mut text = String::new(alloc);
     put_zeros(alloc, &mut text, 7, 1200)?;
     text.push_str("8|8|NULL\nrows 2\n")?;
-    expect(
-        &rt,
-        alloc,
-        &["rows", "d.db", "c"],
-        Some(&file),
-        0,
-        text.as_str(),
-    )?;
-    expect(
-        &rt,
-        alloc,
-        &["rows", "d.db", "i"],
-        Some(&file),
-        2,
-        "refused closed-table 3\n",
-    )?;
+    Ok(text)
+}
+
+fn expect_tree<R: Threads + Wait + Sync + Abort>(
+    rt: &R,
+    alloc: Global,
+    table: &str,
+    status: u8,
+    text: &str,
+) -> Result<(), AllocError> {
+    let file = forest(alloc)?;
+    expect(rt, alloc, &["rows", "d.db", table], &file, (status, text))
+}
+
+// Trees of two levels, and a payload with a chain of overflow pages.
+#[test]
+fn trees(rt: HostRuntime) -> Result<(), Fail> {
+    let text = five_rows(rt.alloc())?;
+    expect_tree(&rt, rt.alloc(), "t", 0, text.as_str())?;
+    let text = long_row(rt.alloc())?;
+    expect_tree(&rt, rt.alloc(), "c", 0, text.as_str())?;
+    expect_tree(&rt, rt.alloc(), "i", 2, "refused closed-table 3\n")?;
     Ok(())
 }

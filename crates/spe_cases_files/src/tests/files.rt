@@ -1,5 +1,7 @@
 //! Real files.
 
+ghost use Rattle.std.specs.Prelude.{◌≡◌, ◌<◌, true};
+
 use spe_disk::{Disk, Failed, FileNo, Scripts, Sink};
 use spe_files::{FileDisk, FileFault, FileScripts, OutSink};
 use std::alloc::{AllocError, Global};
@@ -22,27 +24,92 @@ fn no_database(rt: HostRuntime) -> Result<(), Fail> {
     Ok(())
 }
 
-// What four bytes, and eight more from byte 10 on, are from byte 2 on.
+// Whether four bytes, and eight more from byte 10 on, have this length.
+fn grows<D: Disk>(disk: &mut D) -> bool
+    requires { D.attached disk.old ≡ true }
+    ensures { D.attached disk.new ≡ true }
+{
+    let before = disk.length(FileNo::Database);
+    let written = disk.write_at(FileNo::Database, 10, b"efghijkl");
+    let after = disk.length(FileNo::Database);
+    before == Ok(Some(4)) && written == Ok(()) && after == Ok(Some(18))
+}
+
+// Whether they are this from byte 2 on, and nothing from byte 18 on.
+fn reads<D: Disk>(disk: &mut D) -> bool
+    requires { D.attached disk.old ≡ true }
+    ensures { D.attached disk.new ≡ true }
+{
+    let mut bytes = [b'x'; 20];
+    let some = disk.read_at(FileNo::Database, 2, &mut bytes);
+    let same = &bytes == b"cd\0\0\0\0\0\0efghijkl\0\0\0\0";
+    let none = disk.read_at(FileNo::Database, 18, &mut bytes);
+    some == Ok(16) && same && none == Ok(0) && bytes == [0; 20]
+}
+
+// Whether a cut to so many bytes leaves this length.
+fn cuts<D: Disk>(disk: &mut D, length: u64, left: u64) -> bool
+    requires { D.attached disk.old ≡ true }
+    ensures { D.attached disk.new ≡ true }
+{
+    let cut = disk.cut(FileNo::Database, length);
+    cut == Ok(()) && disk.length(FileNo::Database) == Ok(Some(left))
+}
+
+fn works<R: Files<File = File>>(rt: &R, alloc: Global, name: &str) -> bool {
+    let mut disk = FileDisk::new(rt, alloc);
+    let attached = disk.attach(name) == Ok(true);
+    attached
+        && grows(&mut disk)
+        && reads(&mut disk)
+        && cuts(&mut disk, 100, 18)
+        && cuts(&mut disk, 3, 3)
+}
+
 #[test]
 fn a_database(rt: HostRuntime) -> Result<(), Fail> {
     let name = path(rt.alloc(), process::id(rt.process()), "some")?;
     fs::write(&rt, name.as_str(), b"abcd".as_slice())?;
-    let mut disk = FileDisk::new(&rt, rt.alloc());
-    assert!(rt; disk.attach(name.as_str()) == Ok(true));
-    assert!(rt; disk.length(FileNo::Database) == Ok(Some(4)));
-    assert!(rt; disk.write_at(FileNo::Database, 10, b"efghijkl") == Ok(()));
-    assert!(rt; disk.length(FileNo::Database) == Ok(Some(18)));
-    let mut bytes = [b'x'; 20];
-    assert!(rt; disk.read_at(FileNo::Database, 2, &mut bytes) == Ok(16));
-    assert!(rt; &bytes == b"cd\0\0\0\0\0\0efghijkl\0\0\0\0");
-    assert!(rt; disk.read_at(FileNo::Database, 18, &mut bytes) == Ok(0));
-    assert!(rt; bytes == [0; 20]);
-    assert!(rt; disk.cut(FileNo::Database, 100) == Ok(()));
-    assert!(rt; disk.length(FileNo::Database) == Ok(Some(18)));
-    assert!(rt; disk.cut(FileNo::Database, 3) == Ok(()));
-    assert!(rt; disk.length(FileNo::Database) == Ok(Some(3)));
+    let holds = works(&rt, rt.alloc(), name.as_str());
     fs::remove_file(&rt, name.as_str())?;
+    assert!(rt; holds);
     Ok(())
+}
+
+// Whether a journal has this length.
+fn has_length<D: Disk>(disk: &mut D, id: u8, length: Option<u64>) -> bool
+    requires attached { D.attached disk.old ≡ true }
+    requires numbered { id < 16 }
+    ensures { D.attached disk.new ≡ true }
+{
+    disk.length(FileNo::Journal(id)) == Ok(length)
+}
+
+// Whether so many journals are made.
+fn makes<D: Disk>(disk: &mut D, made: u8) -> bool
+    requires { D.attached disk.old ≡ true }
+    ensures { D.attached disk.new ≡ true }
+{
+    disk.make_journals() == Ok(made)
+}
+
+// Makes the journals of a database, and writes to the last.
+fn makes_journals<R: Files<File = File>>(rt: &R, alloc: Global, name: &str) -> bool {
+    let mut disk = FileDisk::new(rt, alloc);
+    let attached = disk.attach(name) == Ok(true);
+    attached
+        && has_length(&mut disk, 3, None)
+        && makes(&mut disk, 16)
+        && makes(&mut disk, 0)
+        && has_length(&mut disk, 3, Some(0))
+        && disk.write_at(FileNo::Journal(15), 2, b"ab") == Ok(())
+}
+
+// What is found of them when the database is opened again.
+fn has_journals<R: Files<File = File>>(rt: &R, alloc: Global, name: &str) -> bool {
+    let mut disk = FileDisk::new(rt, alloc);
+    let attached = disk.attach(name) == Ok(true);
+    attached && has_length(&mut disk, 15, Some(4)) && makes(&mut disk, 0)
 }
 
 #[test]
@@ -50,20 +117,12 @@ fn journals(rt: HostRuntime) -> Result<(), Fail> {
     let name = path(rt.alloc(), process::id(rt.process()), "hot")?;
     let folder = path(rt.alloc(), process::id(rt.process()), "hot-journal")?;
     fs::write(&rt, name.as_str(), b"abcd".as_slice())?;
-    let mut disk = FileDisk::new(&rt, rt.alloc());
-    assert!(rt; disk.attach(name.as_str()) == Ok(true));
-    assert!(rt; disk.length(FileNo::Journal(3)) == Ok(None));
-    assert!(rt; disk.make_journals() == Ok(16));
-    assert!(rt; disk.make_journals() == Ok(0));
-    assert!(rt; fs::metadata(&rt, folder.as_str())?.is_dir());
-    assert!(rt; disk.length(FileNo::Journal(3)) == Ok(Some(0)));
-    assert!(rt; disk.write_at(FileNo::Journal(15), 2, b"ab") == Ok(()));
-    let mut again = FileDisk::new(&rt, rt.alloc());
-    assert!(rt; again.attach(name.as_str()) == Ok(true));
-    assert!(rt; again.length(FileNo::Journal(15)) == Ok(Some(4)));
-    assert!(rt; again.make_journals() == Ok(0));
+    let made = makes_journals(&rt, rt.alloc(), name.as_str());
+    let folds = fs::metadata(&rt, folder.as_str())?.is_dir();
+    let again = has_journals(&rt, rt.alloc(), name.as_str());
     fs::remove_dir_all(&rt, folder.as_str())?;
     fs::remove_file(&rt, name.as_str())?;
+    assert!(rt; made && folds && again);
     Ok(())
 }
 
@@ -182,6 +241,26 @@ fn hot_journals_of_others(rt: HostRuntime) -> Result<(), Fail> {
     Ok(())
 }
 
+// Whether the disk reads nothing of a journal.
+fn reads_none<D: Disk>(disk: &mut D) -> bool
+    requires { D.attached disk.old ≡ true }
+    ensures { D.attached disk.new ≡ true }
+{
+    let mut bytes = [b'x'; 2];
+    disk.read_at(FileNo::Journal(3), 0, &mut bytes) == Ok(0)
+}
+
+// Whether each journal is absent, and the database is there.
+fn has_no_journals<R: Files<File = File>>(rt: &R, alloc: Global, name: &str) -> bool {
+    let mut disk = FileDisk::new(rt, alloc);
+    let attached = disk.attach(name) == Ok(true);
+    attached
+        && has_length(&mut disk, 3, None)
+        && reads_none(&mut disk)
+        && disk.length(FileNo::Database) == Ok(Some(4))
+        && disk.first_fault() == None
+}
+
 // Over a cold journal of another program each journal of this one is absent.
 #[test]
 fn no_journal_below_a_file(rt: HostRuntime) -> Result<(), Fail> {
@@ -189,59 +268,92 @@ fn no_journal_below_a_file(rt: HostRuntime) -> Result<(), Fail> {
     let journal = path(rt.alloc(), process::id(rt.process()), "below-journal")?;
     fs::write(&rt, name.as_str(), b"abcd".as_slice())?;
     fs::write(&rt, journal.as_str(), b"".as_slice())?;
-    let mut disk = FileDisk::new(&rt, rt.alloc());
-    assert!(rt; disk.attach(name.as_str()) == Ok(true));
-    assert!(rt; disk.length(FileNo::Journal(3)) == Ok(None));
-    let mut bytes = [b'x'; 2];
-    assert!(rt; disk.read_at(FileNo::Journal(3), 0, &mut bytes) == Ok(0));
-    assert!(rt; disk.length(FileNo::Database) == Ok(Some(4)));
-    assert!(rt; disk.first_fault() == None);
+    let holds = has_no_journals(&rt, rt.alloc(), name.as_str());
     fs::remove_file(&rt, journal.as_str())?;
     fs::remove_file(&rt, name.as_str())?;
+    assert!(rt; holds);
     Ok(())
+}
+
+// Whether the disk names this path for a fault.
+fn names<R: Files<File = File>>(
+    disk: &FileDisk<'_, R>,
+    fault: FileFault,
+    path: &str,
+) -> Result<bool, AllocError> {
+    let found = disk.path(fault)?;
+    Ok(found.as_str() == path)
 }
 
 #[test]
 fn a_folder_is_no_database(rt: HostRuntime) -> Result<(), Fail> {
     let mut disk = FileDisk::new(&rt, rt.alloc());
-    assert!(rt; disk.attach("/tmp") == Err(Failed));
-    assert!(rt; disk.first_fault() == Some(FileFault::NotPlain));
-    let path = disk.path(FileFault::NotPlain)?;
-    assert_eq!(rt; path.as_str(), "/tmp");
-    let path = disk.path(FileFault::StockJournal)?;
-    assert_eq!(rt; path.as_str(), "/tmp-journal");
+    let refused = disk.attach("/tmp") == Err(Failed);
+    let plain = disk.first_fault() == Some(FileFault::NotPlain);
+    let named = names(&disk, FileFault::NotPlain, "/tmp")?
+        && names(&disk, FileFault::StockJournal, "/tmp-journal")?;
+    assert!(rt; refused && plain && named);
     Ok(())
+}
+
+// Whether a reading gives no text.
+fn lacks<S: Scripts>(scripts: &mut S, alloc: Global, name: &str) -> bool {
+    matches!(scripts.read(alloc, name), Ok(None))
+}
+
+// Whether it gives so many bytes.
+fn gives_bytes<S: Scripts>(scripts: &mut S, alloc: Global, name: &str, bytes: usize) -> bool {
+    matches!(scripts.read(alloc, name), Ok(Some(text)) if text.len() == bytes)
+}
+
+// Whether it gives this text.
+fn gives<S: Scripts>(scripts: &mut S, alloc: Global, name: &str, text: &[u8]) -> bool {
+    matches!(scripts.read(alloc, name), Ok(Some(found)) if found.as_slice() == text)
+}
+
+// Whether it fails.
+fn fails<S: Scripts>(scripts: &mut S, alloc: Global, name: &str) -> bool {
+    scripts.read(alloc, name).is_err()
+}
+
+// Writes a script that is longer than any may be.
+fn write_long<R: Files<File = File>>(rt: &R, alloc: Global, name: &str) -> io::Result<()> {
+    let text = vec![in alloc; b';'; 16_777_220]?;
+    fs::write(rt, name, text.as_slice())
+}
+
+// Whether no script, one that is too long, a short one and a folder are read so.
+fn are_read<R: Files<File = File>>(rt: &R, alloc: Global, name: &str) -> io::Result<bool> {
+    let mut scripts = FileScripts::new(rt);
+    let none = lacks(&mut scripts, alloc, name);
+    write_long(rt, alloc, name)?;
+    let long = gives_bytes(&mut scripts, alloc, name, 16_777_217);
+    fs::write(rt, name, b"BEGIN;".as_slice())?;
+    let short = gives(&mut scripts, alloc, name, b"BEGIN;");
+    Ok(none && long && short && fails(&mut scripts, alloc, "/tmp"))
 }
 
 #[test]
 fn scripts(rt: HostRuntime) -> Result<(), Fail> {
     let name = path(rt.alloc(), process::id(rt.process()), "script")?;
-    let mut scripts = FileScripts::new(&rt);
-    let none = scripts.read(rt.alloc(), name.as_str());
-    assert!(rt; matches!(none, Ok(None)));
-    let text = vec![in rt.alloc(); b';'; 16_777_220]?;
-    fs::write(&rt, name.as_str(), text.as_slice())?;
-    let some = scripts.read(rt.alloc(), name.as_str());
-    assert!(rt; matches!(&some, Ok(Some(text)) if text.len() == 16_777_217));
-    fs::write(&rt, name.as_str(), b"BEGIN;".as_slice())?;
-    let some = scripts.read(rt.alloc(), name.as_str());
-    assert!(rt; matches!(&some, Ok(Some(text)) if text.as_slice() == b"BEGIN;".as_slice()));
+    let read = are_read(&rt, rt.alloc(), name.as_str())?;
     fs::remove_file(&rt, name.as_str())?;
-    let folder = scripts.read(rt.alloc(), "/tmp");
-    assert!(rt; folder.is_err());
+    assert!(rt; read);
     Ok(())
+}
+
+// Whether all of this is put.
+fn is_put<S: Sink>(sink: &mut S, text: &[u8]) -> bool {
+    sink.put(text) == Ok(text.len())
 }
 
 // The test prints two lines.
 #[test]
 fn puts(rt: HostRuntime) {
     let mut sink = OutSink::new(&rt);
-    assert!(rt; sink.put(b"") == Ok(0));
-    assert!(rt; sink.put(b"put\n") == Ok(4));
-    assert!(rt; sink.head().starts_with(b"put\n\0"));
-    let line = [b'.'; 70];
-    assert!(rt; sink.put(&line) == Ok(70));
-    assert!(rt; sink.put(b"\n") == Ok(1));
-    assert!(rt; sink.head().len() == 64);
-    assert!(rt; sink.head().ends_with(b"...."));
+    let first = is_put(&mut sink, b"") && is_put(&mut sink, b"put\n");
+    let head = sink.head().starts_with(b"put\n\0");
+    let second = is_put(&mut sink, &[b'.'; 70]) && is_put(&mut sink, b"\n");
+    let later = sink.head().len() == 64 && sink.head().ends_with(b"....");
+    assert!(rt; first && head && second && later);
 }

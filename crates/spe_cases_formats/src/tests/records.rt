@@ -1,5 +1,5 @@
 use spe_model::{Bytes, RecordFault, Text, Value, Values};
-use spe_record::{decode, encode, encoded_length};
+use spe_record::{decode, encode, encoded_length, value_count};
 use std::alloc::{AllocError, Global};
 use std::process::Abort;
 use std::test::Fail;
@@ -67,6 +67,32 @@ fn faults(rt: HostRuntime) {
     for (bytes, fault) in &FAULTS {
         let found = decode(rt.alloc(), *bytes);
         assert!(rt; matches!(found, Err(f) if f == *fault), "{fault:?}");
+    }
+}
+
+#[test]
+fn faults_of_counting(rt: HostRuntime) {
+    for (bytes, fault) in &FAULTS {
+        let found = value_count(*bytes);
+        assert!(rt; matches!(found, Err(f) if f == *fault), "{fault:?}");
+    }
+}
+
+static COUNTS: [(&[u8], usize); 4] = [
+    (b"\x01", 0),
+    (b"\x80\x03\x01\x07", 1),
+    (b"\x04\x13\x10\x01\xc3\xa9z\xff\xfe\x07", 3),
+    (
+        b"\x07\x00\x08\x09\x07\x0d\x0c\x3f\xf8\x00\x00\x00\x00\x00\x00",
+        6,
+    ),
+];
+
+#[test]
+fn values_are_counted(rt: HostRuntime) {
+    for (bytes, count) in &COUNTS {
+        let found = value_count(*bytes);
+        assert!(rt; matches!(found, Ok(n) if n == *count), "{count}");
     }
 }
 

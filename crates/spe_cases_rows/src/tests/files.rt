@@ -12,15 +12,70 @@ pub fn file_of(alloc: Global, length: usize, patches: &[Patch]) -> Result<Vec<u8
     Ok(file)
 }
 
+/// Puts a byte into its place, where the file has such a place.
+pub fn put(file: &mut [u8], at: usize, byte: u8) {
+    if let Some(place) = file.get_mut(at) {
+        *place = byte;
+    }
+}
+
 /// Lays patches over a file.
 pub fn lay(file: &mut [u8], patches: &[Patch]) {
     for (at, bytes) in patches {
         for (i, byte) in bytes.iter().enumerate() {
-            if let Some(place) = file.get_mut(at.wrapping_add(i)) {
-                *place = *byte;
-            }
+            put(file, at.wrapping_add(i), *byte);
         }
     }
+}
+
+const HEAD: &[u8] =
+    b"\xd9\xd5\x05\xf9\x20\xa1\x63\xd7\xff\xff\xff\xff\x00\x00\x00\x10\x00\x00\x00\x06\x00\x00\x02\x00\x00\x00\x02\x00";
+
+// Adds a record of this page of the file, whose bytes that count for the checksum are zero.
+fn push_record(found: &mut Vec<u8>, file: &[u8], page: u8) -> Result<(), AllocError> {
+    found.extend_from_slice(&[0, 0, 0, page])?;
+    let from = usize::from(page).saturating_sub(1).wrapping_mul(512);
+    for byte in file.iter().skip(from).take(512) {
+        found.push(*byte)?;
+    }
+    found.extend_from_slice(&[0, 0, 0, 16])
+}
+
+/// A journal of a database of so many pages, with a record of this page of the file.
+pub fn journal(alloc: Global, pages: u8, file: &[u8], page: u8) -> Result<Vec<u8>, AllocError> {
+    let mut found = file_of(alloc, 512, &[(0, HEAD)])?;
+    put(&mut found, 19, pages);
+    push_record(&mut found, file, page)?;
+    Ok(found)
+}
+
+/// Two empty tables, in server form: the free lists of node page 4 are the trunks 5 and 6.
+pub static TWO: [Patch; 8] = [
+    (
+        0,
+        b"SQLite format 3\x00\x02\x00\x01\x01\x00@  \x00\x00\x00\x03\x00\x00\x00\x06\x00\x00\x00\x04",
+    ),
+    (43, b"\x02\x00\x00\x00\x04"),
+    (59, b"\x01"),
+    (
+        95,
+        b"\x03\x00.v\x89\x0d\x00\x00\x00\x02\x01\x7e\x00\x01\xbf\x01\x7e",
+    ),
+    (
+        382,
+        b"?\x02\x06\x17\x0f\x0f\x01otablebb\x03CREATE TABLE b(id INTEGER PRIMARY KEY, v INTEGER)",
+    ),
+    (
+        447,
+        b"?\x01\x06\x17\x0f\x0f\x01otableaa\x02CREATE TABLE a(id INTEGER PRIMARY KEY, v INTEGER)\x0d\x00\x00\x00\x00\x02",
+    ),
+    (1024, b"\x0d\x00\x00\x00\x00\x02"),
+    (1536, b"\x00\x00\x00\x02\x00\x00\x00\x05\x00\x00\x00\x06"),
+];
+
+/// The tables `a` and `b`, which are empty, beside two free lists in server form.
+pub fn two(alloc: Global) -> Result<Vec<u8>, AllocError> {
+    file_of(alloc, 3072, &TWO)
 }
 
 /// The table `p` with the rows 1, 2 and 3, in pages of 512 bytes: 1,024 bytes.

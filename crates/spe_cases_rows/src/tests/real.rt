@@ -1,29 +1,13 @@
 //! What `rows` does over real files, with hot journals beside the database.
 
-use super::files::{SIGNS, SIGNS_ROWS, file_of};
-use super::run::{sink_of, words_of};
-use spe_disk::{MemScripts, OpenGate};
+use super::files::{SIGNS, SIGNS_ROWS, file_of, journal};
+use super::run::{Ended, run_over};
 use spe_files::FileDisk;
-use spe_model::Numbers;
-use spe_serve::spe;
-use std::alloc::{AllocError, Global};
+use std::alloc::{Alloc, AllocError, Global};
+use std::fs::File;
+use std::rt::Files;
 use std::test::Fail;
-use std::{fs, process};
-
-const HEAD: &[u8] =
-    b"\xd9\xd5\x05\xf9\x20\xa1\x63\xd7\xff\xff\xff\xff\x00\x00\x00\x10\x00\x00\x00\x03\x00\x00\x02\x00\x00\x00\x02\x00";
-
-// A journal with a record of this page of the file, whose bytes that count for the checksum are zero.
-fn journal(alloc: Global, file: &[u8], page: u8) -> Result<Vec<u8>, AllocError> {
-    let mut found = file_of(alloc, 512, &[(0, HEAD)])?;
-    found.extend_from_slice(&[0, 0, 0, page])?;
-    let from = usize::from(page).saturating_sub(1).wrapping_mul(512);
-    for byte in file.iter().skip(from).take(512) {
-        found.push(*byte)?;
-    }
-    found.extend_from_slice(&[0, 0, 0, 16])?;
-    Ok(found)
-}
+use std::{fs, io, process};
 
 // The file with its page 1 from byte 24 on, and its other pages, overwritten.
 fn spoilt(alloc: Global, file: &[u8]) -> Result<Vec<u8>, AllocError> {
@@ -34,34 +18,88 @@ fn spoilt(alloc: Global, file: &[u8]) -> Result<Vec<u8>, AllocError> {
     Ok(found)
 }
 
+// Each journal, with the page that it holds.
+static JOURNALS: [(u8, u8); 3] = [(0, 2), (1, 3), (7, 1)];
+
+fn lay_out_journal<R: Files<File = File>>(
+    rt: &R,
+    alloc: Global,
+    folder: &str,
+    held: (u8, u8),
+) -> io::Result<()> {
+    let file = file_of(alloc, 1536, &SIGNS)?;
+    let bytes = journal(alloc, 3, &file, held.1)?;
+    let id = held.0;
+    let path = format!(in alloc; "{folder}/{id}-journal")?;
+    fs::write(rt, path.as_str(), bytes.as_slice())
+}
+
+fn write_spoilt<R: Files<File = File>>(rt: &R, alloc: Global, name: &str) -> io::Result<()> {
+    let file = file_of(alloc, 1536, &SIGNS)?;
+    let bytes = spoilt(alloc, &file)?;
+    fs::write(rt, name, bytes.as_slice())
+}
+
+// Writes the spoilt file, and the journals into its folder.
+fn lay_out<R: Files<File = File>>(rt: &R, alloc: Global, name: &str) -> io::Result<()> {
+    let folder = format!(in alloc; "{name}-journal")?;
+    write_spoilt(rt, alloc, name)?;
+    fs::create_dir(rt, folder.as_str())?;
+    for held in &JOURNALS {
+        lay_out_journal(rt, alloc, folder.as_str(), *held)?;
+    }
+    Ok(())
+}
+
+fn is_empty<R: Files<File = File>>(
+    rt: &R,
+    alloc: Global,
+    folder: &str,
+    id: u8,
+) -> io::Result<bool> {
+    let path = format!(in alloc; "{folder}/{id}-journal")?;
+    Ok(fs::metadata(rt, path.as_str())?.len() == 0)
+}
+
+// Whether each journal is empty.
+fn are_empty<R: Files<File = File>>(rt: &R, alloc: Global, folder: &str) -> io::Result<bool> {
+    Ok(
+        is_empty(rt, alloc, folder, 0)?
+            && is_empty(rt, alloc, folder, 1)?
+            && is_empty(rt, alloc, folder, 7)?,
+    )
+}
+
+// Whether the file is whole.
+fn is_whole<R: Files<File = File> + Alloc>(rt: &R, alloc: Global, name: &str) -> io::Result<bool> {
+    let file = file_of(alloc, 1536, &SIGNS)?;
+    let after = fs::read(rt, name)?;
+    Ok(after.as_slice() == file.as_slice())
+}
+
+// Whether each journal is empty and the file is whole. Removes them.
+fn is_left<R: Files<File = File> + Alloc>(rt: &R, alloc: Global, name: &str) -> io::Result<bool> {
+    let folder = format!(in alloc; "{name}-journal")?;
+    let empty = are_empty(rt, alloc, folder.as_str())?;
+    let whole = is_whole(rt, alloc, name)?;
+    fs::remove_dir_all(rt, folder.as_str())?;
+    fs::remove_file(rt, name)?;
+    Ok(empty && whole)
+}
+
+fn is_printed<D>(ended: &Ended<D>) -> bool {
+    ended.status == 0 && ended.sink.as_slice() == SIGNS_ROWS.as_bytes()
+}
+
 // Three journals hold the three pages of the file. Afterwards each is empty, and the file is whole.
 #[test]
 fn three_journals(rt: HostRuntime) -> Result<(), Fail> {
-    let alloc = rt.alloc();
     let process = process::id(rt.process());
-    let name = format!(in alloc; "/tmp/spe_cases_rows-{process}.db")?;
-    let folder = format!(in alloc; "{name}-journal")?;
-    let file = file_of(alloc, 1536, &SIGNS)?;
-    fs::write(&rt, name.as_str(), spoilt(alloc, &file)?.as_slice())?;
-    fs::create_dir(&rt, folder.as_str())?;
-    for (id, page) in [(0, 2), (1, 3), (7, 1)] {
-        let path = format!(in alloc; "{folder}/{id}-journal")?;
-        fs::write(&rt, path.as_str(), journal(alloc, &file, page)?.as_slice())?;
-    }
-    let words = words_of(alloc, &["rows", name.as_str(), "p"])?;
-    let mut scripts = MemScripts::new(alloc, Numbers::new(Vec::new(alloc)));
-    let mut sink = sink_of(alloc, 1 << 16, &[])?;
-    let disk = FileDisk::new(&rt, alloc);
-    let (finished, _disk) = spe(&rt, alloc, words, disk, &mut scripts, &mut sink, &OpenGate);
-    assert_eq!(rt; sink.as_slice(), SIGNS_ROWS.as_bytes());
-    assert_eq!(rt; finished.status, 0);
-    for id in [0, 1, 7] {
-        let path = format!(in alloc; "{folder}/{id}-journal")?;
-        assert_eq!(rt; fs::metadata(&rt, path.as_str())?.len(), 0);
-    }
-    let after = fs::read(&rt, name.as_str())?;
-    assert_eq!(rt; after.as_slice(), file.as_slice());
-    fs::remove_dir_all(&rt, folder.as_str())?;
-    fs::remove_file(&rt, name.as_str())?;
+    let name = format!(in rt.alloc(); "/tmp/spe_cases_rows-{process}.db")?;
+    lay_out(&rt, rt.alloc(), name.as_str())?;
+    let disk = FileDisk::new(&rt, rt.alloc());
+    let printed = is_printed(&run_over(&rt, rt.alloc(), &["rows", name.as_str(), "p"], disk)?);
+    let left = is_left(&rt, rt.alloc(), name.as_str())?;
+    assert!(rt; printed && left);
     Ok(())
 }

@@ -2,7 +2,11 @@
 
 use super::files::{PEOPLE, SIGNS, SIGNS_ROWS, file_of};
 use super::run::expect;
+use std::alloc::{AllocError, Global};
+use std::process::Abort;
+use std::sync::Wait;
 use std::test::Fail;
+use std::thread::Threads;
 
 #[test]
 fn people(rt: HostRuntime) -> Result<(), Fail> {
@@ -22,18 +26,28 @@ static TABLES: [(&str, u8, &str); 5] = [
     ("q", 2, "refused no-table\n"),
 ];
 
+fn expect_table<R: Threads + Wait + Sync + Abort>(
+    rt: &R,
+    alloc: Global,
+    file: &[u8],
+    case: &(&str, u8, &str),
+) -> Result<(), AllocError> {
+    let (table, status, text) = *case;
+    expect(
+        rt,
+        alloc,
+        &["rows", "signs.db", table],
+        Some(file),
+        status,
+        text,
+    )
+}
+
 #[test]
 fn tables(rt: HostRuntime) -> Result<(), Fail> {
     let file = file_of(rt.alloc(), 1536, &SIGNS)?;
-    for (table, status, text) in &TABLES {
-        expect(
-            &rt,
-            rt.alloc(),
-            &["rows", "signs.db", *table],
-            Some(&file),
-            *status,
-            *text,
-        )?;
+    for case in &TABLES {
+        expect_table(&rt, rt.alloc(), &file, case)?;
     }
     Ok(())
 }

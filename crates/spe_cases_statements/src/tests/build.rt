@@ -1,6 +1,6 @@
 //! Tables and statements of `spe_model` from constants.
 
-use crate::tests::steps::{Command, Field, PLANS, Plan, Test};
+use crate::tests::steps::{Command, Field, Heading, PLANS, Plan, Test};
 use spe_model::{
     Bytes, Column, Columns, Cond, Conds, Names, Set, Sets, Statement, TableDef, Tables, Text,
     Value, Values,
@@ -60,40 +60,80 @@ fn sets_of(alloc: Global, sets: &[(&str, Field)]) -> Result<Sets, AllocError> {
     Ok(Sets::new(found))
 }
 
-/// The statement of a command.
-pub fn statement_of(alloc: Global, command: &Command) -> Result<Statement, AllocError> {
-    Ok(match command {
-        Command::Select(table, all, columns, tests) => Statement::Select {
-            table: text_of(alloc, table)?,
-            all: *all,
-            columns: names_of(alloc, columns)?,
-            conds: conds_of(alloc, tests)?,
-        },
-        Command::Count(table, tests) => Statement::Count {
-            table: text_of(alloc, table)?,
-            conds: conds_of(alloc, tests)?,
-        },
-        Command::Insert(table, listed, columns, values) => Statement::Insert {
-            table: text_of(alloc, table)?,
-            listed: *listed,
-            columns: names_of(alloc, columns)?,
-            values: values_of(alloc, values)?,
-        },
-        Command::Update(table, sets, tests) => Statement::Update {
-            table: text_of(alloc, table)?,
-            sets: sets_of(alloc, sets)?,
-            conds: conds_of(alloc, tests)?,
-        },
-        Command::Delete(table, tests) => Statement::Delete {
-            table: text_of(alloc, table)?,
-            conds: conds_of(alloc, tests)?,
-        },
+fn select_of(
+    alloc: Global,
+    table: &str,
+    all: bool,
+    columns: &[&str],
+    tests: &[Test],
+) -> Result<Statement, AllocError> {
+    Ok(Statement::Select {
+        table: text_of(alloc, table)?,
+        all,
+        columns: names_of(alloc, columns)?,
+        conds: conds_of(alloc, tests)?,
     })
 }
 
-fn table_of(alloc: Global, plan: &Plan) -> Result<TableDef, AllocError> {
+fn count_of(alloc: Global, table: &str, tests: &[Test]) -> Result<Statement, AllocError> {
+    Ok(Statement::Count {
+        table: text_of(alloc, table)?,
+        conds: conds_of(alloc, tests)?,
+    })
+}
+
+fn insert_of(
+    alloc: Global,
+    table: &str,
+    listed: bool,
+    columns: &[&str],
+    values: &[Field],
+) -> Result<Statement, AllocError> {
+    Ok(Statement::Insert {
+        table: text_of(alloc, table)?,
+        listed,
+        columns: names_of(alloc, columns)?,
+        values: values_of(alloc, values)?,
+    })
+}
+
+fn update_of(
+    alloc: Global,
+    table: &str,
+    sets: &[(&str, Field)],
+    tests: &[Test],
+) -> Result<Statement, AllocError> {
+    Ok(Statement::Update {
+        table: text_of(alloc, table)?,
+        sets: sets_of(alloc, sets)?,
+        conds: conds_of(alloc, tests)?,
+    })
+}
+
+fn delete_of(alloc: Global, table: &str, tests: &[Test]) -> Result<Statement, AllocError> {
+    Ok(Statement::Delete {
+        table: text_of(alloc, table)?,
+        conds: conds_of(alloc, tests)?,
+    })
+}
+
+/// The statement of a command.
+pub fn statement_of(alloc: Global, command: &Command) -> Result<Statement, AllocError> {
+    match *command {
+        Command::Select(table, all, columns, tests) => select_of(alloc, table, all, columns, tests),
+        Command::Count(table, tests) => count_of(alloc, table, tests),
+        Command::Insert(table, listed, columns, values) => {
+            insert_of(alloc, table, listed, columns, values)
+        }
+        Command::Update(table, sets, tests) => update_of(alloc, table, sets, tests),
+        Command::Delete(table, tests) => delete_of(alloc, table, tests),
+    }
+}
+
+// The columns under these headings.
+fn columns_of(alloc: Global, headings: &[Heading]) -> Result<Columns, AllocError> {
     let mut columns = Vec::new(alloc);
-    for (name, affinity, not_null) in plan.headings {
+    for (name, affinity, not_null) in headings {
         let name = text_of(alloc, name)?;
         columns.push(Column {
             name,
@@ -101,9 +141,13 @@ fn table_of(alloc: Global, plan: &Plan) -> Result<TableDef, AllocError> {
             not_null: *not_null,
         })?;
     }
+    Ok(Columns::new(columns))
+}
+
+fn table_of(alloc: Global, plan: &Plan) -> Result<TableDef, AllocError> {
     Ok(TableDef {
         name: text_of(alloc, plan.name)?,
-        columns: Columns::new(columns),
+        columns: columns_of(alloc, plan.headings)?,
         alias: plan.alias,
         closed: plan.closed,
     })

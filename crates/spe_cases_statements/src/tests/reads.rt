@@ -8,6 +8,7 @@ use crate::tests::files::{EMPTY, File, KINDS, LAST, LONG, ONE, SHORT, SPOILT};
 use crate::tests::run::is_reply;
 use crate::tests::space::space_of;
 use crate::tests::steps::Answer::{self, Counted, Refused, Rows};
+use crate::tests::steps::Command;
 use crate::tests::steps::Field::{Int, Null, Text, Zeros};
 use spe_catalog::read_catalog;
 use spe_exec::run;
@@ -195,10 +196,18 @@ fn reply_over(
     let catalog = read_catalog(alloc, space)?;
     match statement {
         Statement::Select { .. } | Statement::Count { .. } => {
-            Ok(Some(run(alloc, space, &catalog, statement, kind)?))
+            run(alloc, space, &catalog, statement, kind).map(Some)
         }
         _ => Ok(None),
     }
+}
+
+// Gives these rows to a database.
+fn apply_all(alloc: Global, database: &mut SlowDb, rows: &[Command]) -> Result<(), AllocError> {
+    for row in rows {
+        let _ = database.apply(&statement_of(alloc, row)?)?;
+    }
+    Ok(())
 }
 
 // The reply over maps to which the rows of the file were given.
@@ -209,9 +218,7 @@ fn reply_of_maps(
     statement: &Statement,
 ) -> Result<Reply, AllocError> {
     let mut database = SlowDb::new(alloc, tables(alloc)?)?;
-    for row in file.rows {
-        let _ = database.apply(&statement_of(alloc, row)?)?;
-    }
+    apply_all(alloc, &mut database, file.rows)?;
     database.apply_in(kind, statement)
 }
 
@@ -219,6 +226,47 @@ fn is_answer(reply: &Result<Option<Reply>, TreeFault>, answer: &Answer) -> bool 
     match reply {
         Ok(Some(reply)) => is_reply(reply, answer),
         _ => false,
+    }
+}
+
+// Whether the pages of a file give this answer.
+fn pages_give(
+    alloc: Global,
+    file: &File,
+    kind: TxKind,
+    statement: &Statement,
+    answer: &Answer,
+) -> Result<bool, AllocError> {
+    let mut space = space_of(alloc, file)?;
+    let reply = reply_over(alloc, &mut space, kind, statement);
+    Ok(is_answer(&reply, answer))
+}
+
+// Whether maps with the same rows give it.
+fn maps_give(
+    alloc: Global,
+    file: &File,
+    kind: TxKind,
+    statement: &Statement,
+    answer: &Answer,
+) -> Result<bool, AllocError> {
+    let reply = reply_of_maps(alloc, file, kind, statement)?;
+    Ok(is_reply(&reply, answer))
+}
+
+fn gives(
+    alloc: Global,
+    file: &File,
+    kind: TxKind,
+    text: &str,
+    answer: &Answer,
+) -> Result<bool, AllocError> {
+    match parse(alloc, text) {
+        Ok(statement) => Ok(
+            pages_give(alloc, file, kind, &statement, answer)?
+                && maps_give(alloc, file, kind, &statement, answer)?,
+        ),
+        Err(_) => Ok(false),
     }
 }
 
@@ -231,16 +279,27 @@ fn expect_case(
     text: &str,
     answer: &Answer,
 ) -> Result<(), AllocError> {
-    let Ok(statement) = parse(alloc, text) else {
-        assert!(rt; false, "no statement: {text}");
-        return Ok(());
-    };
-    let mut space = space_of(alloc, file)?;
-    let reply = reply_over(alloc, &mut space, kind, &statement);
-    assert!(rt; is_answer(&reply, answer), "{reply:?} to {text}");
-    let plain = reply_of_maps(alloc, file, kind, &statement)?;
-    assert!(rt; is_reply(&plain, answer), "{plain:?} over maps to {text}");
+    let holds = gives(alloc, file, kind, text, answer)?;
+    assert!(rt; holds, "{text}");
     Ok(())
+}
+
+// The fault of a statement that reads, over the pages of a file.
+fn fault_over(
+    alloc: Global,
+    file: &File,
+    statement: &Statement,
+) -> Result<Option<TreeFault>, AllocError> {
+    let mut space = space_of(alloc, file)?;
+    let reply = reply_over(alloc, &mut space, TxKind::ReadOnly, statement);
+    Ok(reply.err())
+}
+
+fn fault_to(alloc: Global, file: &File, text: &str) -> Result<Option<TreeFault>, AllocError> {
+    match parse(alloc, text) {
+        Ok(statement) => fault_over(alloc, file, &statement),
+        Err(_) => Ok(None),
+    }
 }
 
 fn expect_fault(
@@ -250,15 +309,8 @@ fn expect_fault(
     text: &str,
     fault: TreeFault,
 ) -> Result<(), AllocError> {
-    let Ok(statement) = parse(alloc, text) else {
-        assert!(rt; false, "no statement: {text}");
-        return Ok(());
-    };
-    let mut space = space_of(alloc, file)?;
-    match reply_over(alloc, &mut space, TxKind::ReadOnly, &statement) {
-        Ok(reply) => assert!(rt; false, "{reply:?} to {text}"),
-        Err(found) => assert_eq!(rt; found, fault, "{text}"),
-    }
+    let found = fault_to(alloc, file, text)?;
+    assert_eq!(rt; found, Some(fault), "{text}");
     Ok(())
 }
 

@@ -53,15 +53,21 @@ fn lay_all(bytes: &mut [u8], page: u32, patches: &[Patch]) {
     }
 }
 
+// A page of a file.
+fn page_of(alloc: Global, file: &File, page: u32) -> Result<Vec<u8>, AllocError> {
+    let mut bytes = vec![in alloc; 0u8; 512]?;
+    lay_all(bytes.as_mut_slice(), page, file.front);
+    lay_all(bytes.as_mut_slice(), page, file.rest);
+    Ok(bytes)
+}
+
 /// The pages of a file, none of which was given.
 pub fn space_of(alloc: Global, file: &File) -> Result<MapSpace, AllocError>
     ensures { IfOk result (λ space. map_refusal space ≡ None) }
 {
     let mut filling = Filling::new(alloc, file.pages)?;
     for page in 1..=file.pages {
-        let mut bytes = vec![in alloc; 0u8; 512]?;
-        lay_all(bytes.as_mut_slice(), page, file.front);
-        lay_all(bytes.as_mut_slice(), page, file.rest);
+        let bytes = page_of(alloc, file, page)?;
         filling.load(page, bytes.as_slice());
     }
     let Filling { space, .. } = filling;

@@ -229,27 +229,35 @@ fn expect<R: Abort>(rt: &R, alloc: Global, sql: &str, columns: &str) -> Result<(
     Ok(())
 }
 
+fn expect_all<R: Abort>(rt: &R, alloc: Global, cases: &[(&str, &str)]) -> Result<(), AllocError> {
+    for (sql, columns) in cases {
+        expect(rt, alloc, sql, columns)?;
+    }
+    Ok(())
+}
+
+fn expect_unknown<R: Abort>(rt: &R, alloc: Global, texts: &[&str]) -> Result<(), AllocError> {
+    for sql in texts {
+        expect(rt, alloc, sql, "")?;
+    }
+    Ok(())
+}
+
 #[test]
 fn declared(rt: HostRuntime) -> Result<(), Fail> {
-    for (sql, columns) in &DECLARED {
-        expect(&rt, rt.alloc(), *sql, *columns)?;
-    }
+    expect_all(&rt, rt.alloc(), &DECLARED)?;
     Ok(())
 }
 
 #[test]
 fn unknown(rt: HostRuntime) -> Result<(), Fail> {
-    for sql in &UNKNOWN {
-        expect(&rt, rt.alloc(), *sql, "")?;
-    }
+    expect_unknown(&rt, rt.alloc(), &UNKNOWN)?;
     Ok(())
 }
 
 #[test]
 fn spelled(rt: HostRuntime) -> Result<(), Fail> {
-    for (sql, columns) in &SPELLED {
-        expect(&rt, rt.alloc(), *sql, *columns)?;
-    }
+    expect_all(&rt, rt.alloc(), &SPELLED)?;
     Ok(())
 }
 
@@ -274,16 +282,12 @@ fn types(rt: HostRuntime) -> Result<(), Fail> {
 
 #[test]
 fn unknown_frames(rt: HostRuntime) -> Result<(), Fail> {
-    for sql in &FRAMES {
-        expect(&rt, rt.alloc(), *sql, "")?;
-    }
+    expect_unknown(&rt, rt.alloc(), &FRAMES)?;
     Ok(())
 }
 
 #[test]
 fn unknown_parts(rt: HostRuntime) -> Result<(), Fail> {
-    for sql in &PARTS {
-        expect(&rt, rt.alloc(), *sql, "")?;
-    }
+    expect_unknown(&rt, rt.alloc(), &PARTS)?;
     Ok(())
 }

@@ -1,6 +1,6 @@
 //! Statements, their faults and the places of these.
 
-use spe_model::{Cond, Names, Op, Set, SqlFault, SqlKind, Statement, Value};
+use spe_model::{Cond, Names, Op, Set, SqlFault, SqlKind, Statement, Text, Value};
 use spe_parse::parse;
 use std::alloc::{AllocError, Global};
 use std::process::Abort;
@@ -341,6 +341,11 @@ fn push_values(alloc: Global, text: &mut String, values: &[Value]) -> Result<(),
     Ok(())
 }
 
+fn push_head(text: &mut String, verb: &str, table: &Text) -> Result<(), AllocError> {
+    text.push_str(verb)?;
+    text.push_str(table.as_str())
+}
+
 // A statement in one line.
 pub fn shown(alloc: Global, text: &mut String, statement: &Statement) -> Result<(), AllocError> {
     match statement {
@@ -350,14 +355,12 @@ pub fn shown(alloc: Global, text: &mut String, statement: &Statement) -> Result<
             columns,
             conds,
         } => {
-            text.push_str("select ")?;
-            text.push_str(table.as_str())?;
+            push_head(text, "select ", table)?;
             push_columns(text, *all, columns)?;
             push_conds(alloc, text, conds.as_slice())
         }
         Statement::Count { table, conds } => {
-            text.push_str("count ")?;
-            text.push_str(table.as_str())?;
+            push_head(text, "count ", table)?;
             push_conds(alloc, text, conds.as_slice())
         }
         Statement::Insert {
@@ -366,20 +369,17 @@ pub fn shown(alloc: Global, text: &mut String, statement: &Statement) -> Result<
             columns,
             values,
         } => {
-            text.push_str("insert ")?;
-            text.push_str(table.as_str())?;
+            push_head(text, "insert ", table)?;
             push_columns(text, !*listed, columns)?;
             push_values(alloc, text, values.as_slice())
         }
         Statement::Update { table, sets, conds } => {
-            text.push_str("update ")?;
-            text.push_str(table.as_str())?;
+            push_head(text, "update ", table)?;
             push_sets(alloc, text, sets.as_slice())?;
             push_conds(alloc, text, conds.as_slice())
         }
         Statement::Delete { table, conds } => {
-            text.push_str("delete ")?;
-            text.push_str(table.as_str())?;
+            push_head(text, "delete ", table)?;
             push_conds(alloc, text, conds.as_slice())
         }
     }
@@ -395,19 +395,29 @@ fn kind_text(kind: SqlKind) -> &'static str {
     }
 }
 
+fn statement_text(alloc: Global, statement: &Statement) -> Result<String, AllocError> {
+    let mut line = String::new(alloc);
+    shown(alloc, &mut line, statement)?;
+    Ok(line)
+}
+
+fn fault_text(alloc: Global, fault: SqlFault) -> Result<String, AllocError> {
+    let (at, kind) = (fault.at, kind_text(fault.kind));
+    format!(in alloc; "fault {at} {kind}")
+}
+
 // What a text is, in one line.
 fn read(alloc: Global, text: &str) -> Result<String, AllocError> {
     match parse(alloc, text) {
-        Ok(statement) => {
-            let mut line = String::new(alloc);
-            shown(alloc, &mut line, &statement)?;
-            Ok(line)
-        }
-        Err(SqlFault { at, kind }) => {
-            let kind = kind_text(kind);
-            format!(in alloc; "fault {at} {kind}")
-        }
+        Ok(statement) => statement_text(alloc, &statement),
+        Err(fault) => fault_text(alloc, fault),
     }
+}
+
+// Whether a text is that.
+fn is_read(alloc: Global, text: &str, line: &str) -> Result<bool, AllocError> {
+    let found = read(alloc, text)?;
+    Ok(found.as_str() == line)
 }
 
 fn expect(rt: &impl Abort, alloc: Global, text: &str, line: &str) -> Result<(), AllocError> {
@@ -426,35 +436,65 @@ fn expect_number(
     expect(rt, alloc, text.as_str(), line)
 }
 
-// A word is refused so at the front and where a name is due, and is a name in quotes.
-fn expect_word(rt: &impl Abort, alloc: Global, word: &str, kind: &str) -> Result<(), AllocError> {
+// Whether a word is refused so where a name is due.
+fn is_refused(alloc: Global, word: &str, kind: &str) -> Result<bool, AllocError> {
     let text = format!(in alloc; "DELETE FROM {word}")?;
     let line = format!(in alloc; "fault 12 {kind}")?;
-    expect(rt, alloc, text.as_str(), line.as_str())?;
-    let text = format!(in alloc; "SELECT [{word}] FROM \"{word}\" {word}")?;
-    let found = read(alloc, text.as_str())?;
-    assert!(rt; found.as_str().ends_with(kind));
-    let text = format!(in alloc; "DELETE FROM `{word}`")?;
-    let line = format!(in alloc; "delete {word}")?;
-    expect(rt, alloc, text.as_str(), line.as_str())
+    is_read(alloc, text.as_str(), line.as_str())
 }
 
-#[test]
-fn statements(rt: HostRuntime) -> Result<(), Fail> {
-    for (text, line) in &FORMS {
-        expect(&rt, rt.alloc(), *text, *line)?;
+// Whether it is refused so behind names, in quotes, of the same letters.
+fn is_refused_last(alloc: Global, word: &str, kind: &str) -> Result<bool, AllocError> {
+    let text = format!(in alloc; "SELECT [{word}] FROM \"{word}\" {word}")?;
+    let found = read(alloc, text.as_str())?;
+    Ok(found.as_str().ends_with(kind))
+}
+
+// Whether it is a name in quotes.
+fn is_name(alloc: Global, word: &str) -> Result<bool, AllocError> {
+    let text = format!(in alloc; "DELETE FROM `{word}`")?;
+    let line = format!(in alloc; "delete {word}")?;
+    is_read(alloc, text.as_str(), line.as_str())
+}
+
+// A word is refused so at the front and where a name is due, and is a name in quotes.
+fn expect_word(rt: &impl Abort, alloc: Global, word: &str, kind: &str) -> Result<(), AllocError> {
+    let refused = is_refused(alloc, word, kind)?;
+    let last = is_refused_last(alloc, word, kind)?;
+    let name = is_name(alloc, word)?;
+    assert!(rt; refused && last && name, "{word}");
+    Ok(())
+}
+
+fn expect_words(
+    rt: &impl Abort,
+    alloc: Global,
+    words: &[&str],
+    kind: &str,
+) -> Result<(), AllocError> {
+    for word in words {
+        expect_word(rt, alloc, word, kind)?;
+    }
+    Ok(())
+}
+
+fn expect_all(rt: &impl Abort, alloc: Global, cases: &[(&str, &str)]) -> Result<(), AllocError> {
+    for (text, line) in cases {
+        expect(rt, alloc, text, line)?;
     }
     Ok(())
 }
 
 #[test]
+fn statements(rt: HostRuntime) -> Result<(), Fail> {
+    expect_all(&rt, rt.alloc(), &FORMS)?;
+    Ok(())
+}
+
+#[test]
 fn first_faults(rt: HostRuntime) -> Result<(), Fail> {
-    for (text, line) in &FAULTS {
-        expect(&rt, rt.alloc(), *text, *line)?;
-    }
-    for (text, line) in &LEFT_OUT {
-        expect(&rt, rt.alloc(), *text, *line)?;
-    }
+    expect_all(&rt, rt.alloc(), &FAULTS)?;
+    expect_all(&rt, rt.alloc(), &LEFT_OUT)?;
     Ok(())
 }
 
@@ -468,14 +508,8 @@ fn numbers(rt: HostRuntime) -> Result<(), Fail> {
 
 #[test]
 fn words(rt: HostRuntime) -> Result<(), Fail> {
-    for word in &OTHER_WORDS {
-        expect_word(&rt, rt.alloc(), *word, "unsupported")?;
-    }
-    for word in &LONG_OTHER_WORDS {
-        expect_word(&rt, rt.alloc(), *word, "unsupported")?;
-    }
-    for word in &GRAMMAR_WORDS {
-        expect_word(&rt, rt.alloc(), *word, "expected")?;
-    }
+    expect_words(&rt, rt.alloc(), &OTHER_WORDS, "unsupported")?;
+    expect_words(&rt, rt.alloc(), &LONG_OTHER_WORDS, "unsupported")?;
+    expect_words(&rt, rt.alloc(), &GRAMMAR_WORDS, "expected")?;
     Ok(())
 }

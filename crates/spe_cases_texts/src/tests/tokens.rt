@@ -101,13 +101,17 @@ fn kind_text(kind: TokenKind) -> &'static str {
     }
 }
 
+fn push_token(alloc: Global, text: &mut String, token: &Token) -> Result<(), AllocError> {
+    let (kind, at, length) = (kind_text(token.kind), token.at, token.length);
+    let one = format!(in alloc; "{kind} {at} {length}|")?;
+    text.push_str(one.as_str())
+}
+
 // Tokens in one line.
 fn shown(alloc: Global, tokens: &[Token]) -> Result<String, AllocError> {
     let mut text = String::new(alloc);
     for token in tokens {
-        let (kind, at, length) = (kind_text(token.kind), token.at, token.length);
-        let one = format!(in alloc; "{kind} {at} {length}|")?;
-        text.push_str(one.as_str())?;
+        push_token(alloc, &mut text, token)?;
     }
     Ok(text)
 }

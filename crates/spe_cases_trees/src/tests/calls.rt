@@ -230,15 +230,21 @@ fn answer_of(alloc: Global, held: &mut Held, call: Call) -> Result<Answer, Alloc
     })
 }
 
+// A page of zeros but for those of these patches that are its own.
+fn loaded_page(alloc: Global, page: u32, patches: &[Patch]) -> Result<Vec<u8>, AllocError> {
+    let mut bytes = vec![in alloc; 0u8; 512]?;
+    for (of, at, patch) in patches {
+        if *of == page {
+            lay(&mut bytes, *at, *patch);
+        }
+    }
+    Ok(bytes)
+}
+
 fn held_of(alloc: Global, calls: &Calls) -> Result<Held, AllocError> {
     let mut filling = Filling::limited(alloc, calls.pages, calls.limit)?;
     for page in 1..=calls.pages {
-        let mut bytes = vec![in alloc; 0u8; 512]?;
-        for (of, at, patch) in calls.loaded {
-            if *of == page {
-                lay(&mut bytes, *at, *patch);
-            }
-        }
+        let bytes = loaded_page(alloc, page, calls.loaded)?;
         filling.load(page, &bytes);
     }
     Ok(filling.into_held())

@@ -3,8 +3,8 @@
 ghost use Rattle.std.specs.Prelude.{◌≡◌, IfOk, None};
 ghost use Rattle.spe_space.specs.View.{map_refusal};
 
-use crate::tests::long::payload_of;
-use crate::tests::space::{Filling, lay};
+use crate::tests::long::{link_of, payload_of};
+use crate::tests::space::Filling;
 use spe_space::{MapSpace, SpaceFault, TreeFault, read_chain};
 use std::alloc::{AllocError, Global};
 use std::process::Abort;
@@ -163,20 +163,29 @@ static CHAINS: [Chain; 16] = [
     },
 ];
 
+// Fills the pages of a chain with a payload, 508 bytes a page.
+fn load_chain(
+    alloc: Global,
+    filling: &mut Filling,
+    chain: &Chain,
+    payload: &[u8],
+) -> Result<(), AllocError> {
+    let mut left = payload;
+    for (i, page) in chain.order.iter().enumerate() {
+        let (here, rest) = left.split_at(left.len().min(508));
+        let next = chain.order.get(i.wrapping_add(1)).unwrap_or(&chain.last);
+        let bytes = link_of(alloc, *next, here)?;
+        filling.load(*page, &bytes);
+        left = rest;
+    }
+    Ok(())
+}
+
 fn space_of(alloc: Global, chain: &Chain, payload: &[u8]) -> Result<MapSpace, AllocError>
     ensures { IfOk result (λ s. map_refusal s ≡ None) }
 {
     let mut filling = Filling::new(alloc, false, 5)?;
-    let mut left = payload;
-    for (i, page) in chain.order.iter().enumerate() {
-        let mut bytes = vec![in alloc; 0u8; 512]?;
-        let (here, rest) = left.split_at(left.len().min(508));
-        let next = chain.order.get(i.wrapping_add(1)).unwrap_or(&chain.last);
-        lay(&mut bytes, 0, &next.to_be_bytes());
-        lay(&mut bytes, 4, here);
-        filling.load(*page, &bytes);
-        left = rest;
-    }
+    load_chain(alloc, &mut filling, chain, payload)?;
     Ok(filling.into_space())
 }
 
@@ -207,29 +216,34 @@ fn chains(rt: HostRuntime) -> Result<(), Fail> {
     Ok(())
 }
 
-// The pages after page 1 hold a million bytes, one after the other; the last of the 1969 has 256.
-fn expect_million(rt: &impl Abort, alloc: Global) -> Result<(), AllocError> {
-    let payload = payload_of(alloc, 1_000_000)?;
-    let mut filling = Filling::new(alloc, false, 1970)?;
+// Fills the pages after page 1 with these bytes, one after the other, up to page 1970.
+fn load_links(alloc: Global, filling: &mut Filling, payload: &[u8]) -> Result<(), AllocError> {
     let mut page: u32 = 2;
     for here in payload.chunks(508) {
-        let mut bytes = vec![in alloc; 0u8; 512]?;
         let next = if page < 1970 { page.wrapping_add(1) } else { 0 };
-        lay(&mut bytes, 0, &next.to_be_bytes());
-        lay(&mut bytes, 4, here);
+        let bytes = link_of(alloc, next, here)?;
         filling.load(page, &bytes);
         page = next;
-    }
-    let mut space = filling.into_space();
-    match read_chain(alloc, &mut space, 2, 1_000_000) {
-        Ok(bytes) => assert!(rt; bytes.as_slice() == payload.as_slice(), "a million bytes"),
-        Err(fault) => assert!(rt; false, "{fault:?}"),
     }
     Ok(())
 }
 
+// Whether the pages after page 1, which hold these million bytes, are read so; the last of the 1969
+// has 256.
+fn reads_million(alloc: Global, payload: &[u8]) -> Result<bool, AllocError> {
+    let mut filling = Filling::new(alloc, false, 1970)?;
+    load_links(alloc, &mut filling, payload)?;
+    let mut space = filling.into_space();
+    match read_chain(alloc, &mut space, 2, 1_000_000) {
+        Ok(bytes) => Ok(bytes.as_slice() == payload),
+        Err(_) => Ok(false),
+    }
+}
+
 #[test]
 fn million(rt: HostRuntime) -> Result<(), Fail> {
-    expect_million(&rt, rt.alloc())?;
+    let payload = payload_of(rt.alloc(), 1_000_000)?;
+    let read = reads_million(rt.alloc(), &payload)?;
+    assert!(rt; read);
     Ok(())
 }

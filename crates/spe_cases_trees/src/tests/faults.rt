@@ -216,21 +216,37 @@ static DAMAGES: [Damage; 17] = [
     },
 ];
 
-fn expect_damage(rt: &impl Abort, alloc: Global, damage: &Damage) -> Result<(), AllocError> {
+fn find_over(alloc: Global, file: &File, root: u32) -> Result<Answer, AllocError> {
+    let mut space = space_of(alloc, file)?;
+    Ok(answer_of(find(alloc, &mut space, root, 5)))
+}
+
+fn range_over(alloc: Global, file: &File, root: u32) -> Result<Answer, AllocError> {
+    let mut space = space_of(alloc, file)?;
+    Ok(answer_of(range(alloc, &mut space, root, i64::MIN, i64::MAX)))
+}
+
+fn largest_over(alloc: Global, file: &File, root: u32) -> Result<Answer, AllocError> {
+    let mut space = space_of(alloc, file)?;
+    Ok(answer_of(largest(alloc, &mut space, root)))
+}
+
+fn holds(alloc: Global, damage: &Damage) -> Result<bool, AllocError> {
     let file = File {
         large: false,
         pages: 4,
         patches: damage.patches,
     };
-    let mut space = space_of(alloc, &file)?;
-    let answer = answer_of(find(alloc, &mut space, damage.root, 5));
-    assert_eq!(rt; answer, damage.find, "find over {}", damage.name);
-    let mut space = space_of(alloc, &file)?;
-    let answer = answer_of(range(alloc, &mut space, damage.root, i64::MIN, i64::MAX));
-    assert_eq!(rt; answer, damage.range, "range over {}", damage.name);
-    let mut space = space_of(alloc, &file)?;
-    let answer = answer_of(largest(alloc, &mut space, damage.root));
-    assert_eq!(rt; answer, damage.largest, "largest over {}", damage.name);
+    let found = find_over(alloc, &file, damage.root)?;
+    let ranged = range_over(alloc, &file, damage.root)?;
+    let last = largest_over(alloc, &file, damage.root)?;
+    Ok(found == damage.find && ranged == damage.range && last == damage.largest)
+}
+
+fn expect_damage(rt: &impl Abort, alloc: Global, damage: &Damage) -> Result<(), AllocError> {
+    let holds = holds(alloc, damage)?;
+    let name = damage.name;
+    assert!(rt; holds, "{name}");
     Ok(())
 }
 

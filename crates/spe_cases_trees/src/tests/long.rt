@@ -5,7 +5,7 @@ ghost use Rattle.spe_space.specs.View.{map_refusal};
 
 use crate::tests::space::{Filling, lay};
 use crate::tests::tables::is_found;
-use spe_search::{find, largest, range};
+use spe_search::{Pair, find, largest, range};
 use spe_space::{MapSpace, TreeFault};
 use std::alloc::{AllocError, Global};
 use std::process::Abort;
@@ -77,10 +77,12 @@ pub fn payload_of(alloc: Global, length: u32) -> Result<Vec<u8>, AllocError> {
 fn cell_of(alloc: Global, long: &Long, local: &[u8], first: u32) -> Result<Vec<u8>, AllocError> {
     let length = long.payload;
     let mut cell = Vec::new(alloc);
-    cell.push((length >> 14 & 0x7f) as u8 | 0x80)?;
-    cell.push((length >> 7 & 0x7f) as u8 | 0x80)?;
-    cell.push((length & 0x7f) as u8)?;
-    cell.push(7)?;
+    cell.extend_from_slice(&[
+        (length >> 14 & 0x7f) as u8 | 0x80,
+        (length >> 7 & 0x7f) as u8 | 0x80,
+        (length & 0x7f) as u8,
+        7,
+    ])?;
     cell.extend_from_slice(local)?;
     if long.links > 0 {
         cell.extend_from_slice(&first.to_be_bytes())?;
@@ -99,49 +101,89 @@ fn leaf_of(alloc: Global, cell: &[u8]) -> Result<Vec<u8>, AllocError> {
     Ok(page)
 }
 
-// The row in a leaf, page 2. Its overflow pages come after it, the last of them first.
-fn space_of(alloc: Global, long: &Long, payload: &[u8]) -> Result<MapSpace, AllocError>
-    ensures { IfOk result (λ s. map_refusal s ≡ None) }
-{
-    let mut filling = Filling::new(alloc, false, long.links.saturating_add(2))?;
+/// An overflow page with these bytes, and the page after it.
+pub fn link_of(alloc: Global, next: u32, bytes: &[u8]) -> Result<Vec<u8>, AllocError> {
+    let mut link = vec![in alloc; 0u8; 512]?;
+    lay(&mut link, 0, &next.to_be_bytes());
+    lay(&mut link, 4, bytes);
+    Ok(link)
+}
+
+// Fills the overflow pages from page 3 on, the last of them with the first bytes.
+fn load_links(
+    alloc: Global,
+    filling: &mut Filling,
+    first: u32,
+    rest: &[u8],
+) -> Result<(), AllocError> {
+    let mut page = first;
+    for bytes in rest.chunks(508) {
+        let next = if page > 3 { page.saturating_sub(1) } else { 0 };
+        let link = link_of(alloc, next, bytes)?;
+        filling.load(page, &link);
+        page = next;
+    }
+    Ok(())
+}
+
+// Fills the leaf, page 2, and its overflow pages.
+fn load_all(
+    alloc: Global,
+    filling: &mut Filling,
+    long: &Long,
+    payload: &[u8],
+) -> Result<(), AllocError> {
     let (local, rest) = payload.split_at(payload.len().min(long.local as usize));
     let first = long.links.saturating_add(2);
     let cell = cell_of(alloc, long, local, first)?;
     let leaf = leaf_of(alloc, &cell)?;
     filling.load(2, &leaf);
-    let mut page = first;
-    for bytes in rest.chunks(508) {
-        let mut link = vec![in alloc; 0u8; 512]?;
-        let next = if page > 3 { page.saturating_sub(1) } else { 0 };
-        lay(&mut link, 0, &next.to_be_bytes());
-        lay(&mut link, 4, bytes);
-        filling.load(page, &link);
-        page = next;
-    }
+    load_links(alloc, filling, first, rest)
+}
+
+// The row in a leaf, page 2. Its overflow pages come after it, the last of them first.
+fn space_of(alloc: Global, long: &Long, payload: &[u8]) -> Result<MapSpace, AllocError>
+    ensures { IfOk result (λ s. map_refusal s ≡ None) }
+{
+    let mut filling = Filling::new(alloc, false, long.links.saturating_add(2))?;
+    load_all(alloc, &mut filling, long, payload)?;
     Ok(filling.into_space())
 }
 
-fn expect_long(rt: &impl Abort, alloc: Global, long: &Long) -> Result<(), AllocError> {
-    let payload = payload_of(alloc, long.payload)?;
-    let mut space = space_of(alloc, long, &payload)?;
-    let answer = find(alloc, &mut space, 2, 7);
-    assert!(rt;
-        is_found(answer, Some(payload.as_slice())),
-        "{} bytes",
-        long.payload
-    );
-    let mut space = space_of(alloc, long, &payload)?;
-    match range(alloc, &mut space, 2, 7, 7) {
-        Ok(pairs) => match pairs.as_slice() {
-            [pair] => assert!(rt;
-                pair.payload.as_slice() == payload.as_slice(),
-                "{} bytes",
-                long.payload
-            ),
-            _ => assert!(rt; false, "{} bytes", long.payload),
-        },
-        Err(fault) => assert!(rt; false, "{fault:?}"),
+// Whether `find` gives the row this payload.
+fn finds(alloc: Global, long: &Long, payload: &[u8]) -> Result<bool, AllocError> {
+    let mut space = space_of(alloc, long, payload)?;
+    Ok(is_found(find(alloc, &mut space, 2, 7), Some(payload)))
+}
+
+// Whether these are one row, with this payload.
+fn is_only(pairs: &[Pair], payload: &[u8]) -> bool {
+    match pairs {
+        [pair] => pair.payload.as_slice() == payload,
+        _ => false,
     }
+}
+
+// Whether `range` gives the row alone, with this payload.
+fn ranges(alloc: Global, long: &Long, payload: &[u8]) -> Result<bool, AllocError> {
+    let mut space = space_of(alloc, long, payload)?;
+    match range(alloc, &mut space, 2, 7, 7) {
+        Ok(pairs) => Ok(is_only(pairs.as_slice(), payload)),
+        Err(_) => Ok(false),
+    }
+}
+
+fn long_holds(alloc: Global, long: &Long) -> Result<bool, AllocError> {
+    let payload = payload_of(alloc, long.payload)?;
+    let found = finds(alloc, long, &payload)?;
+    let ranged = ranges(alloc, long, &payload)?;
+    Ok(found && ranged)
+}
+
+fn expect_long(rt: &impl Abort, alloc: Global, long: &Long) -> Result<(), AllocError> {
+    let holds = long_holds(alloc, long)?;
+    let bytes = long.payload;
+    assert!(rt; holds, "{bytes} bytes");
     Ok(())
 }
 
@@ -153,57 +195,95 @@ fn longs(rt: HostRuntime) -> Result<(), Fail> {
     Ok(())
 }
 
-// A tree of single pages from page 1 down: each has the page after it as its right-most child, and the
-// lowest is a leaf that has the row 7.
-fn deep_of(alloc: Global, levels: u32) -> Result<MapSpace, AllocError>
-    ensures { IfOk result (λ s. map_refusal s ≡ None) }
-{
-    let mut filling = Filling::new(alloc, false, levels)?;
+// The page of a level above the lowest, which has the page after it as its right-most child.
+fn level_of(alloc: Global, page: u32) -> Result<Vec<u8>, AllocError> {
+    let mut bytes = vec![in alloc; 0u8; 512]?;
+    let at = if page == 1 { 100 } else { 0 };
+    lay(&mut bytes, at, b"\x05\x00\x00\x00\x00\x02\x00\x00");
+    lay(&mut bytes, at + 8, &page.wrapping_add(1).to_be_bytes());
+    Ok(bytes)
+}
+
+// Fills single pages from page 1 down; the lowest is a leaf that has the row 7.
+fn load_levels(alloc: Global, filling: &mut Filling, levels: u32) -> Result<(), AllocError> {
     for page in 1..levels {
-        let mut bytes = vec![in alloc; 0u8; 512]?;
-        let at = if page == 1 { 100 } else { 0 };
-        lay(&mut bytes, at, b"\x05\x00\x00\x00\x00\x02\x00\x00");
-        lay(&mut bytes, at + 8, &page.wrapping_add(1).to_be_bytes());
+        let bytes = level_of(alloc, page)?;
         filling.load(page, &bytes);
     }
     let leaf = leaf_of(alloc, b"\x01\x07a")?;
     filling.load(levels, &leaf);
+    Ok(())
+}
+
+// A tree of these pages.
+fn deep_of(alloc: Global, levels: u32) -> Result<MapSpace, AllocError>
+    ensures { IfOk result (λ s. map_refusal s ≡ None) }
+{
+    let mut filling = Filling::new(alloc, false, levels)?;
+    load_levels(alloc, &mut filling, levels)?;
     Ok(filling.into_space())
 }
 
-// The fault of each search, if any, over so many levels.
+// What a search over so many levels answers: the row 7 of them all, or a fault.
+#[derive(Clone, Copy, PartialEq, Eq)]
+enum Found {
+    Seven,
+    Fault(TreeFault),
+    Other,
+}
+
+fn found_of(answer: Result<bool, TreeFault>) -> Found {
+    match answer {
+        Ok(true) => Found::Seven,
+        Ok(false) => Found::Other,
+        Err(fault) => Found::Fault(fault),
+    }
+}
+
+fn find_in(alloc: Global, levels: u32) -> Result<Found, AllocError> {
+    let mut space = deep_of(alloc, levels)?;
+    let answer = find(alloc, &mut space, 1, 7);
+    Ok(found_of(answer.map(|row| row.is_some())))
+}
+
+fn range_in(alloc: Global, levels: u32) -> Result<Found, AllocError> {
+    let mut space = deep_of(alloc, levels)?;
+    let answer = range(alloc, &mut space, 1, 7, 7);
+    Ok(found_of(answer.map(|rows| rows.as_slice().len() == 1)))
+}
+
+fn largest_in(alloc: Global, levels: u32) -> Result<Found, AllocError> {
+    let mut space = deep_of(alloc, levels)?;
+    let answer = largest(alloc, &mut space, 1);
+    Ok(found_of(answer.map(|rowid| rowid == Some(7))))
+}
+
+// Whether each search over so many levels answers this.
+fn levels_hold(alloc: Global, levels: u32, wanted: Found) -> Result<bool, AllocError> {
+    let found = find_in(alloc, levels)?;
+    let ranged = range_in(alloc, levels)?;
+    let last = largest_in(alloc, levels)?;
+    Ok(found == wanted && ranged == wanted && last == wanted)
+}
+
 fn expect_levels(
     rt: &impl Abort,
     alloc: Global,
     levels: u32,
-    fault: Option<TreeFault>,
+    wanted: Found,
 ) -> Result<(), AllocError> {
-    let mut space = deep_of(alloc, levels)?;
-    let answer = find(alloc, &mut space, 1, 7);
-    assert_eq!(rt;
-        answer.map(|row| row.is_some()),
-        fault.map_or(Ok(true), Err),
-        "{levels}"
-    );
-    let mut space = deep_of(alloc, levels)?;
-    let answer = range(alloc, &mut space, 1, 7, 7);
-    assert_eq!(rt;
-        answer.map(|rows| rows.as_slice().len()),
-        fault.map_or(Ok(1), Err),
-        "{levels}"
-    );
-    let mut space = deep_of(alloc, levels)?;
-    let answer = largest(alloc, &mut space, 1);
-    assert_eq!(rt; answer, fault.map_or(Ok(Some(7)), Err), "{levels}");
+    let holds = levels_hold(alloc, levels, wanted)?;
+    assert!(rt; holds, "{levels}");
     Ok(())
 }
 
 #[test]
 fn levels(rt: HostRuntime) -> Result<(), Fail> {
     for levels in 2..21 {
-        expect_levels(&rt, rt.alloc(), levels, None)?;
+        expect_levels(&rt, rt.alloc(), levels, Found::Seven)?;
     }
-    expect_levels(&rt, rt.alloc(), 21, Some(TreeFault::Corrupt { page: 21 }))?;
-    expect_levels(&rt, rt.alloc(), 22, Some(TreeFault::Corrupt { page: 21 }))?;
+    let deep = Found::Fault(TreeFault::Corrupt { page: 21 });
+    expect_levels(&rt, rt.alloc(), 21, deep)?;
+    expect_levels(&rt, rt.alloc(), 22, deep)?;
     Ok(())
 }

@@ -6,7 +6,7 @@ ghost use Rattle.spe_space.specs.View.{map_refusal};
 use crate::tests::space::{Filling, lay};
 use spe_catalog::read_catalog;
 use spe_freelist::read_node;
-use spe_model::Entry;
+use spe_model::{Entry, TableDef};
 use spe_search::range_with_leaves;
 use spe_space::{MapSpace, TreeFault};
 use std::alloc::{AllocError, Global};
@@ -84,14 +84,8 @@ fn space_of(alloc: Global, pages: u32, file: &[u8]) -> Result<MapSpace, AllocErr
     Ok(filling.into_space())
 }
 
-fn put_entry(alloc: Global, out: &mut String, entry: &Entry) -> Result<(), AllocError> {
-    let table = &entry.table;
-    let closed = match table.closed {
-        Some(reason) => reason as u8,
-        None => 0,
-    };
-    out.push_str(table.name.as_str())?;
-    out.push_str(format!(in alloc; " {} {closed}", entry.root)?.as_str())?;
+// Adds the names of an entry's columns, with a star behind that of the rowid.
+fn put_columns(out: &mut String, table: &TableDef) -> Result<(), AllocError> {
     for (place, column) in table.columns.as_slice().iter().enumerate() {
         out.push(' ')?;
         out.push_str(column.name.as_str())?;
@@ -99,7 +93,37 @@ fn put_entry(alloc: Global, out: &mut String, entry: &Entry) -> Result<(), Alloc
             out.push('*')?;
         }
     }
+    Ok(())
+}
+
+fn put_entry(alloc: Global, out: &mut String, entry: &Entry) -> Result<(), AllocError> {
+    let table = &entry.table;
+    let closed = match table.closed {
+        Some(reason) => reason as u8,
+        None => 0,
+    };
+    let name = table.name.as_str();
+    let root = entry.root;
+    out.push_str(format!(in alloc; "{name} {root} {closed}")?.as_str())?;
+    put_columns(out, table)?;
     out.push('|')
+}
+
+fn put_entries(alloc: Global, out: &mut String, entries: &[Entry]) -> Result<(), AllocError> {
+    for entry in entries {
+        put_entry(alloc, out, entry)?;
+    }
+    Ok(())
+}
+
+// The catalog of a file of nine pages in one line, nothing where there is none.
+fn shown(alloc: Global, file: &[u8]) -> Result<String, AllocError> {
+    let mut space = space_of(alloc, 9, file)?;
+    let mut found = String::new(alloc);
+    if let Ok(catalog) = read_catalog(alloc, &mut space) {
+        put_entries(alloc, &mut found, catalog.as_slice())?;
+    }
+    Ok(found)
 }
 
 fn expect_tables<R: Abort>(
@@ -108,13 +132,7 @@ fn expect_tables<R: Abort>(
     file: &[u8],
     tables: &str,
 ) -> Result<(), AllocError> {
-    let mut space = space_of(alloc, 9, file)?;
-    let mut found = String::new(alloc);
-    if let Ok(catalog) = read_catalog(alloc, &mut space) {
-        for entry in catalog.as_slice() {
-            put_entry(alloc, &mut found, entry)?;
-        }
-    }
+    let found = shown(alloc, file)?;
     assert_eq!(rt; found.as_str(), tables);
     Ok(())
 }
@@ -169,6 +187,20 @@ fn corrupt_in<T: Drop>(found: Result<T, TreeFault>) -> u32 {
     }
 }
 
+// The file of both parts with these changes.
+fn changed(alloc: Global, changes: &[Patch]) -> Result<Vec<u8>, AllocError> {
+    let mut file = file_of(alloc, 9, &KINDS)?;
+    lay_all(&mut file, &MORE);
+    lay_all(&mut file, changes);
+    Ok(file)
+}
+
+// The page that is named as corrupt in a file of nine pages, or 0.
+fn corrupt_of(alloc: Global, file: &[u8]) -> Result<u32, AllocError> {
+    let mut space = space_of(alloc, 9, file)?;
+    Ok(corrupt_in(read_catalog(alloc, &mut space)))
+}
+
 fn expect_corrupt<R: Abort>(
     rt: &R,
     alloc: Global,
@@ -176,12 +208,8 @@ fn expect_corrupt<R: Abort>(
     changes: &[Patch],
     page: u32,
 ) -> Result<(), AllocError> {
-    let mut file = file_of(alloc, 9, &KINDS)?;
-    lay_all(&mut file, &MORE);
-    lay_all(&mut file, changes);
-    let mut space = space_of(alloc, 9, &file)?;
-    let found = corrupt_in(read_catalog(alloc, &mut space));
-    assert_eq!(rt; found, page, "{name}");
+    let found = corrupt_of(alloc, &changed(alloc, changes)?)?;
+    assert!(rt; found == page, "{name}");
     Ok(())
 }
 
@@ -209,6 +237,11 @@ fn leaf_of(alloc: Global, space: &mut MapSpace, rowid: i64) -> u32
     }
 }
 
+fn leaf_in(alloc: Global, file: &[u8], rowid: i64) -> Result<u32, AllocError> {
+    let mut space = space_of(alloc, 9, file)?;
+    Ok(leaf_of(alloc, &mut space, rowid))
+}
+
 fn expect_leaf<R: Abort>(
     rt: &R,
     alloc: Global,
@@ -216,8 +249,8 @@ fn expect_leaf<R: Abort>(
     rowid: i64,
     page: u32,
 ) -> Result<(), AllocError> {
-    let mut space = space_of(alloc, 9, file)?;
-    assert_eq!(rt; leaf_of(alloc, &mut space, rowid), page, "{rowid}");
+    let found = leaf_in(alloc, file, rowid)?;
+    assert!(rt; found == page, "{rowid}");
     Ok(())
 }
 
@@ -240,21 +273,31 @@ static NODES: [(&[u8], &[u32]); 5] = [
     (b"\x00\x00\x00\x02\x00\x00\x00\x05\x00\x00\x00\x00", &[]),
 ];
 
+// The pages of a file in which page 4 begins so.
+fn node_space(alloc: Global, front: &'static [u8]) -> Result<MapSpace, AllocError>
+    ensures { IfOk result (λ space. map_refusal space ≡ None) }
+{
+    let file = file_of(alloc, 6, &[(1536, front)])?;
+    space_of(alloc, 6, &file)
+}
+
+// Whether the node names these trunks, or is named as damaged where there are none.
+fn node_holds(alloc: Global, front: &'static [u8], firsts: &[u32]) -> Result<bool, AllocError> {
+    let mut space = node_space(alloc, front)?;
+    match read_node(alloc, &mut space, 4) {
+        Ok(trunks) => Ok(trunks.as_slice() == firsts),
+        Err(fault) => Ok(fault == TreeFault::Corrupt { page: 4 } && firsts.is_empty()),
+    }
+}
+
 fn expect_node<R: Abort>(
     rt: &R,
     alloc: Global,
     front: &'static [u8],
     firsts: &[u32],
 ) -> Result<(), AllocError> {
-    let file = file_of(alloc, 6, &[(1536, front)])?;
-    let mut space = space_of(alloc, 6, &file)?;
-    match read_node(alloc, &mut space, 4) {
-        Ok(trunks) => assert_eq!(rt; trunks.as_slice(), firsts),
-        Err(fault) => {
-            assert_eq!(rt; fault, TreeFault::Corrupt { page: 4 });
-            assert!(rt; firsts.is_empty());
-        }
-    }
+    let holds = node_holds(alloc, front, firsts)?;
+    assert!(rt; holds, "{firsts:?}");
     Ok(())
 }
 

@@ -52,6 +52,17 @@ pub fn is_found(answer: Result<Option<Bytes>, TreeFault>, payload: Option<&[u8]>
     }
 }
 
+// Whether `find` gives this payload, or that there is none.
+fn finds(
+    alloc: Global,
+    table: &Table,
+    rowid: i64,
+    payload: Option<&[u8]>,
+) -> Result<bool, AllocError> {
+    let mut space = space_of(alloc, &table.file)?;
+    Ok(is_found(find(alloc, &mut space, table.root, rowid), payload))
+}
+
 fn expect_found(
     rt: &impl Abort,
     alloc: Global,
@@ -59,43 +70,48 @@ fn expect_found(
     rowid: i64,
     payload: Option<&[u8]>,
 ) -> Result<(), AllocError> {
-    let mut space = space_of(alloc, &table.file)?;
-    let answer = find(alloc, &mut space, table.root, rowid);
-    assert!(rt; is_found(answer, payload), "{rowid} in {}", table.name);
+    let holds = finds(alloc, table, rowid, payload)?;
+    assert!(rt; holds, "{rowid} in {}", table.name);
     Ok(())
+}
+
+// Whether `range` gives these rows.
+fn ranges(
+    alloc: Global,
+    table: &Table,
+    (low, high): (i64, i64),
+    rows: &[(i64, &[u8])],
+) -> Result<bool, AllocError> {
+    let mut space = space_of(alloc, &table.file)?;
+    match range(alloc, &mut space, table.root, low, high) {
+        Ok(pairs) => Ok(are_rows(pairs.as_slice(), rows)),
+        Err(_) => Ok(false),
+    }
 }
 
 fn expect_range(
     rt: &impl Abort,
     alloc: Global,
     table: &Table,
-    low: i64,
-    high: i64,
+    bounds: (i64, i64),
     rows: &[(i64, &[u8])],
 ) -> Result<(), AllocError> {
-    let mut space = space_of(alloc, &table.file)?;
-    match range(alloc, &mut space, table.root, low, high) {
-        Ok(pairs) => {
-            assert!(rt;
-                are_rows(pairs.as_slice(), rows),
-                "{low} to {high} in {}",
-                table.name
-            )
-        }
-        Err(fault) => assert!(rt; false, "{fault:?} from {low} to {high} in {}", table.name),
-    }
+    let holds = ranges(alloc, table, bounds, rows)?;
+    assert!(rt; holds, "{bounds:?} in {}", table.name);
     Ok(())
 }
 
-fn expect_largest(rt: &impl Abort, alloc: Global, table: &Table) -> Result<(), AllocError> {
+// Whether `largest` gives the last rowid.
+fn ends(alloc: Global, table: &Table) -> Result<bool, AllocError> {
     let mut space = space_of(alloc, &table.file)?;
     let last = table.rows.last().map(|row| row.0);
-    assert_eq!(rt;
-        largest(alloc, &mut space, table.root),
-        Ok(last),
-        "{}",
-        table.name
-    );
+    Ok(largest(alloc, &mut space, table.root) == Ok(last))
+}
+
+fn expect_largest(rt: &impl Abort, alloc: Global, table: &Table) -> Result<(), AllocError> {
+    let holds = ends(alloc, table)?;
+    let name = table.name;
+    assert!(rt; holds, "{name}");
     Ok(())
 }
 
@@ -107,13 +123,12 @@ fn expect_part(
     part: (i64, i64, usize, usize),
 ) -> Result<(), AllocError> {
     let (low, high, from, to) = part;
-    match table.rows.get(from..to) {
-        Some(rows) => expect_range(rt, alloc, table, low, high, rows),
-        None => {
-            assert!(rt; false, "no rows {from} to {to} in {}", table.name);
-            Ok(())
-        }
-    }
+    let holds = match table.rows.get(from..to) {
+        Some(rows) => ranges(alloc, table, (low, high), rows)?,
+        None => false,
+    };
+    assert!(rt; holds, "{part:?} in {}", table.name);
+    Ok(())
 }
 
 fn expect_rows(rt: &impl Abort, alloc: Global, table: &Table) -> Result<(), AllocError> {
@@ -131,7 +146,7 @@ fn expect_gaps(rt: &impl Abort, alloc: Global, table: &Table) -> Result<(), Allo
 }
 
 fn expect_table(rt: &impl Abort, alloc: Global, table: &Table) -> Result<(), AllocError> {
-    expect_range(rt, alloc, table, i64::MIN, i64::MAX, table.rows)?;
+    expect_range(rt, alloc, table, (i64::MIN, i64::MAX), table.rows)?;
     expect_largest(rt, alloc, table)?;
     expect_rows(rt, alloc, table)?;
     expect_gaps(rt, alloc, table)?;

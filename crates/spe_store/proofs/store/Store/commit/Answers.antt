@@ -8,7 +8,9 @@ use Rattle.spe_store.specs.Pass.{OthersStay, Pass}
 use Rattle.spe_store.specs.Served.{asked_of}
 use Rattle.spe_store.specs.Store.{IsStored, Store}
 use Rattle.spe_store.proofs.CommitLemmas.{breaks_at, commit_broken, commit_done, commit_others, commit_room, cuts_if, number_is}
-use Rattle.spe_store.proofs.ListLemmas.{carried, handed, read_at}
+use Rattle.spe_store.proofs.ListLemmas.{carried, handed, read_at, same_read}
+use Rattle.spe_store.specs.Work.{HasEnded}
+use Rattle.spe_store.specs.declared.work.Work.{Work}
 use Rattle.spe_store.proofs.ReadLemmas.{own_is}
 use Rattle.spe_store.proofs.store.Store.commit.Goals as goal
 
@@ -42,7 +44,8 @@ invariant_of-self-2 g c =
     commit_done _ _ c.self.inside.works.items c.self.inside.order c.self.invariant c.pass.inside.id c.pass.invariant
     (carried (λ (s : Store) (p : Pass). MayEnd g.N.Opening.opened s p.id) c.self.view_is c.pass.view_is c.requires.may) c.args.session.now.number c.args.log.now
     (carried (λ (s : Store) (p : Pass). Justified g.N.Opening.opened.read (asked_of c.args.log.now) (seen_in s.events p.id) (written_in s.events p.id)) c.self.view_is c.pass.view_is c.requires.right) w found c.cut_journal.new.desk
-    (carried (λ (s : Store) (p : Pass). LeavesSeen s p.id) c.self.view_is c.pass.view_is c.requires.alone) c.none.result c.none.ensures c.ops-ops.result c.ops-ops.ensures.ops c.ops-ops.ensures.counted
+    (carried (λ (s : Store) (p : Pass). LeavesSeen s p.id) c.self.view_is c.pass.view_is c.requires.alone) c.end.new.self
+    (subst (λ (v : Work). HasEnded v c.end.new.self) (same_read c.self.inside.works.items c.from-2.result c.from.result c.pass.inside.id c.index_mut.result.now w c.from-2.ensures c.from.ensures (omega (arith, c.self.invariant.all, c.pass.invariant)) c.index_mut.ensures.value c.index-work.ensures) c.end.ensures) c.ops-ops.result c.ops-ops.ensures.ops c.ops-ops.ensures.counted
     c.unwrap_or-count.result c.unwrap_or-count.ensures (carried (λ (s : Store) (p : Pass). lives_in s.events p.id ≡ true) c.self.view_is c.pass.view_is c.requires.lives) c.push-number.new.self c.push-number.ensures.room c.push-number.ensures.rows c.in-Ok.ensures
     c.from-2.result c.from-2.ensures c.with_end-self-inside-2.result.events c.with_end-self-inside-2.ensures
 

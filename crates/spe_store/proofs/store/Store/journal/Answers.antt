@@ -69,6 +69,7 @@ invariant_of-self-2 g c =
       end = c.in-Ok.ensures.end;
       own = ap (λ (v : Work). v.own) same;
       due = ap (λ (v : Work). v.due) same;
+      out = ap (λ (v : Work). v.out) same;
       saved = c.in-Ok-push.ensures.ok ∙ ap (λ (v : Work). v.saved ++ record { page = c.args.page; bytes = c.in-Ok.entry.old; changed = false } ∷ []) same;
     })
     c.from-2.result c.from-2.ensures c.with-story.result.events (c.with-story.ensures ∙ ap (λ (b : List ℕ). Journalled c.pass.inside.id c.args.page b ∷ c.self.inside.story.events) c.as_slice.ensures)
@@ -88,10 +89,10 @@ returns-clause-done g c =
       bytes = old;
       lacks = lacks;
       own = subst (λ (t : Option History). IfTold t (λ h. page_at (pages_in g.N.Opening.opened c.self.inside.story.events) c.args.page ≡ Some old)) told (save_own _ _ c.self.inside.works.items c.self.inside.order (looks_held _ _ c.self.inside.works.items c.self.inside.order c.self.invariant c.entry_of.new.desk c.in-Ok.ensures.looks) c.pass.inside.id c.pass.invariant
-    (carried (λ (s : Store) (p : Pass). open_in s.events p.id ≡ true) c.self.view_is c.pass.view_is c.requires.begun) c.args.page
-    (record { low = f.low; high = f.high; others = f.others; fresh = f.fresh }) lacks w found c.in-Ok.entry.old
-    (subst (λ (t : Option History). ReadsPage t c.self.inside.page_size c.args.page c.in-Ok.entry.old) (sym c.in-Ok.ensures.looks.told) c.in-Ok.ensures.read) c.in-Ok.ensures.sized
-    c.deref.result.now (c.deref.ensures.value ∙ c.in-Ok.ensures.text) (c.in-Ok.ensures.looks.stopped ∙ going));
+          (carried (λ (s : Store) (p : Pass). open_in s.events p.id ≡ true) c.self.view_is c.pass.view_is c.requires.begun) c.args.page
+          (record { low = f.low; high = f.high; others = f.others; fresh = f.fresh }) lacks w found c.in-Ok.entry.old
+          (subst (λ (t : Option History). ReadsPage t c.self.inside.page_size c.args.page c.in-Ok.entry.old) (sym c.in-Ok.ensures.looks.told) c.in-Ok.ensures.read) c.in-Ok.ensures.sized
+          c.deref.result.now (c.deref.ensures.value ∙ c.in-Ok.ensures.text) (c.in-Ok.ensures.looks.stopped ∙ going));
       done = record {
         events = c.with-story.ensures ∙ one c.self.inside.story.events;
         pass = ap (λ (es : List Event). record { id = c.pass.inside.id; done = es }) (c.with-own.ensures ∙ one c.pass.inside.story.events);
@@ -102,8 +103,8 @@ returns-clause-done g c =
       ops = c.in-Ok-write.ensures.tried.ops ∙ ap (λ (n : ℕ). n + 1) c.in-Ok.ensures.looks.ops;
       made = subst (λ (t : Option History). IfTold t (λ h. c.write.new.self.told ≡ Some (grown h (Write (Journal c.pass.inside.id) (length (journal_of (present h) c.pass.inside.id)) (record_bytes (u32_at (journal_of (present h) c.pass.inside.id) 12) c.args.page old) ∷ [])))) told
           (save_made _ _ c.self.inside.works.items c.self.inside.order (looks_held _ _ c.self.inside.works.items c.self.inside.order c.self.invariant c.entry_of.new.desk c.in-Ok.ensures.looks) c.pass.inside.id c.pass.invariant
-    (carried (λ (s : Store) (p : Pass). open_in s.events p.id ≡ true) c.self.view_is c.pass.view_is c.requires.begun) c.args.page
-    (record { low = f.low; high = f.high; others = f.others; fresh = f.fresh }) lacks w found c.in-Ok.entry.old
-    (subst (λ (t : Option History). ReadsPage t c.self.inside.page_size c.args.page c.in-Ok.entry.old) (sym c.in-Ok.ensures.looks.told) c.in-Ok.ensures.read) c.in-Ok.ensures.sized
-    c.deref.result.now (c.deref.ensures.value ∙ c.in-Ok.ensures.text) c.write.new.self c.in-Ok-write.ensures.tried);
+          (carried (λ (s : Store) (p : Pass). open_in s.events p.id ≡ true) c.self.view_is c.pass.view_is c.requires.begun) c.args.page
+          (record { low = f.low; high = f.high; others = f.others; fresh = f.fresh }) lacks w found c.in-Ok.entry.old
+          (subst (λ (t : Option History). ReadsPage t c.self.inside.page_size c.args.page c.in-Ok.entry.old) (sym c.in-Ok.ensures.looks.told) c.in-Ok.ensures.read) c.in-Ok.ensures.sized
+          c.deref.result.now (c.deref.ensures.value ∙ c.in-Ok.ensures.text) c.write.new.self c.in-Ok-write.ensures.tried);
     }))

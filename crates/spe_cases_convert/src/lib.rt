@@ -1,0 +1,5 @@
+//! Tests of what rewrites the pages of a file.
+#![tactic(auto)]
+
+#[cfg(test)]
+mod tests;

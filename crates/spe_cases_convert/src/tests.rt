@@ -1,0 +1,3 @@
+mod blind;
+mod files;
+mod rewriting;

@@ -1,0 +1,6 @@
+use Rattle.std.proofs.Common.{◌≡◌, None}
+use Rattle.spe_space.specs.View.{map_refusal}
+use Rattle.spe_cases_writes.proofs.tests.free_lists.take_many.Given as goal
+
+abbrev pub invariant-loop : goal.invariant-loop
+invariant-loop l = map_refusal l.space ≡ None

@@ -1,0 +1,21 @@
+//! The lower steps of putting a row into a table's tree.
+//!
+//! A row becomes the cell of a leaf. The cells of a page that has one more, or a run of children in the
+//! place of one, are put on that page where they fit, else on that page and on new ones, which then are
+//! a run in the page's place. Each step says of pages in use elsewhere that they stay, whatever it
+//! answers.
+#![tactic(auto)]
+
+mod cell;
+mod interior;
+mod leaf;
+mod node;
+mod place;
+mod run;
+
+pub use cell::write_cell;
+pub use interior::lay_interior;
+pub use leaf::{lay_leaf, lay_parts};
+pub use node::{lay_lower, lay_node};
+pub use place::{place_of, with_children};
+pub use run::Run;
