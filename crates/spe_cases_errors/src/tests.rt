@@ -1,11 +1,14 @@
 //! Errors, each with its text.
 
+use spe_convert::ConvertFault;
 use spe_disk::{Failed, ScriptFault};
 use spe_files::FileFault;
 use spe_model::{HeaderFault, PageFault, RecordFault, RecoverFault, Refusal, SqlFault, SqlKind};
 use spe_parse::Halt;
+use spe_rewrite::RewriteFault;
 use spe_script::{ScriptError, ScriptKind};
 use spe_space::{SpaceFault, TreeFault};
+use spe_store::{BeginFault, StoreFault};
 use spe_words::WordsFault;
 use std::alloc::{AllocError, Global};
 use std::fmt::Display;
@@ -245,6 +248,50 @@ static TREES: [(TreeFault, &str); 8] = [
     (TreeFault::Corrupt { page: 4 }, "page 4 is damaged"),
 ];
 
+static REWRITES: [(RewriteFault, &str); 2] = [
+    (RewriteFault::Disk, "the disk failed"),
+    (RewriteFault::Memory, "out of memory"),
+];
+
+static CONVERSIONS: [(ConvertFault, &str); 5] = [
+    (ConvertFault::Disk, "the disk failed"),
+    (
+        ConvertFault::Full { pages: 262144 },
+        "the database has 262144 pages, and no room for more",
+    ),
+    (ConvertFault::Prepared, "the free lists are in server form"),
+    (
+        ConvertFault::Corrupt { page: 6 },
+        "the free lists are damaged at page 6",
+    ),
+    (ConvertFault::Memory, "out of memory"),
+];
+
+static STORES: [(StoreFault, &str); 4] = [
+    (StoreFault::ReadFault, "the disk failed in a reading"),
+    (
+        StoreFault::Stopped { op: 3 },
+        "operation 3 on the disk failed",
+    ),
+    (
+        StoreFault::PageOut { page: 8, pages: 7 },
+        "page 8 is not one of 7",
+    ),
+    (StoreFault::Memory, "out of memory"),
+];
+
+static BEGINNINGS: [(BeginFault, &str); 3] = [
+    (
+        BeginFault::Stopped { op: 3 },
+        "operation 3 on the disk failed",
+    ),
+    (
+        BeginFault::Sixteen,
+        "sixteen transactions that may write are at work",
+    ),
+    (BeginFault::Memory, "out of memory"),
+];
+
 static FILES: [(FileFault, &str); 5] = [
     (
         FileFault::StockJournal,
@@ -309,6 +356,15 @@ fn scripts(rt: HostRuntime) -> Result<(), Fail> {
     expect_each(&rt, rt.alloc(), &HALTS)?;
     expect_each(&rt, rt.alloc(), &SCRIPTS)?;
     expect_each(&rt, rt.alloc(), &REFUSED_SCRIPTS)?;
+    Ok(())
+}
+
+#[test]
+fn transactions(rt: HostRuntime) -> Result<(), Fail> {
+    expect_each(&rt, rt.alloc(), &REWRITES)?;
+    expect_each(&rt, rt.alloc(), &CONVERSIONS)?;
+    expect_each(&rt, rt.alloc(), &STORES)?;
+    expect_each(&rt, rt.alloc(), &BEGINNINGS)?;
     Ok(())
 }
 

@@ -7,7 +7,7 @@ ghost use Rattle.spe_core.specs.declared.event.Event.{out-Event};
 ghost use Rattle.spe_core.specs.declared.event.Event.TheOpen.{Event-F};
 ghost use Rattle.spe_core.specs.Sheets.{has_sheet};
 ghost use Rattle.spe_core.specs.Enabled.{is_serving, is_page, is_writable, is_page_for, are_written, is_next_header, may_commit, has_changed, where_working, where_going, recovers_by_write, makes_write, is_step_enabled, is_stop_enabled, enabled};
-ghost use Rattle.spe_core.specs.Found.{Finds};
+ghost use Rattle.spe_core.specs.Found.{FindsLive};
 ghost use Rattle.spe_core.specs.Parts.{IsReady, state_of};
 
 use crate::bytes::{front_of, page_size, wanted_count};
@@ -27,7 +27,7 @@ pub fn is_serving(parts: &Parts) -> bool
 
 // The transaction of this number, where it works, while the files are served.
 fn working(parts: &Parts, id: u8) -> Option<&Live>
-    ensures { Finds (where_working (state_of parts.now) id) (option_copied result) }
+    ensures { FindsLive (where_working (state_of parts.now) id) (option_copied result) }
 {
     if !is_serving(parts) {
         return None;
@@ -40,7 +40,7 @@ fn working(parts: &Parts, id: u8) -> Option<&Live>
 
 // The transaction of this number, where it has not ended, while the files are served.
 fn going(parts: &Parts, id: u8) -> Option<&Live>
-    ensures { Finds (where_going (state_of parts.now) id) (option_copied result) }
+    ensures { FindsLive (where_going (state_of parts.now) id) (option_copied result) }
 {
     if !is_serving(parts) {
         return None;

@@ -13,6 +13,11 @@ abbrev pub NothingDone : Option History → Type 0
 NothingDone None = Unit {0}
 NothingDone (Some h) = h.trace ≡ []
 
+-- what the files held at attaching has a place for each of them: the database and sixteen journals
+abbrev pub HasPlaces : Option History → Type 0
+HasPlaces None = Unit {0}
+HasPlaces (Some h) = length h.first ≡ 17
+
 -- P of the present content, where it is told and the call did not fail
 abbrev pub WhereTold : {T : Type 0} → Option History → Result T Failed → (Content → T → Type 0) → Type 0
 WhereTold None result P = Unit {0}

@@ -4,7 +4,7 @@ ghost use Rattle.std.specs.Prelude.{◌≡◌, ℕ, Bool, true, false, Option, I
 ghost use Rattle.spe_model.specs.Content.{IsFile};
 ghost use Rattle.spe_model.specs.Trace.{History};
 ghost use Rattle.spe_model.specs.Faults.{HasCause};
-ghost use Rattle.spe_disk.specs.Told.{NothingDone, Finds, Measures, Reads, Writes, Cuts, MakesJournals};
+ghost use Rattle.spe_disk.specs.Told.{HasPlaces, NothingDone, Finds, Measures, Reads, Writes, Cuts, MakesJournals};
 
 use spe_model::FileNo;
 use thiserror::Error;
@@ -94,4 +94,7 @@ pub trait Disk {
 
     /// Nothing was done before the database is named.
     ghost fresh: { (d : Self) → attached d ≡ false → NothingDone (told d) };
+
+    /// A content has a place for each file, whether it is there or not: the database and sixteen journals.
+    ghost whole: { (d : Self) → HasPlaces (told d) };
 }

@@ -44,6 +44,7 @@ impl Log {
         operations: usize,
     ) -> Result<Log, AllocError>
         ensures first { IfOk result (λ l. l.first ≡ files.now.content) }
+        ensures places { IfOk result (λ l. length l.first ≡ 17) }
         ensures trace { IfOk result (λ l. l.trace ≡ []) }
         ensures left { IfOk result (λ l. l.left ≡ room) }
         ensures limit { IfOk result (λ l. l.limit ≡ operations) }
@@ -91,6 +92,7 @@ impl Log {
         requires numbered { IsFile file }
         requires room { length bytes.now ≤ self.old.left }
         ensures first { self.new.first ≡ with_file self.old.first file bytes.now }
+        ensures places { length self.new.first ≡ 17 }
         ensures trace { self.new.trace ≡ self.old.trace }
         ensures left { self.new.left ≡ self.old.left - length bytes.now }
         ensures limit { self.new.limit ≡ self.old.limit }

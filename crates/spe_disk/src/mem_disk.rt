@@ -26,6 +26,8 @@ impl Disk for MemDisk {
 
     ghost fresh = { λ d a. d.fresh a };
 
+    ghost whole = { λ d. d.whole };
+
     fn attach(&mut self, _name: &str) -> Result<bool, Failed>
         requires { is_attached self.old ≡ false }
         ensures found { Finds (Some (history_of self.old)) result }

@@ -1,6 +1,6 @@
 //! A disk in memory, which tells all.
 
-ghost use Rattle.std.specs.Prelude.{◌≡◌, ◌≤◌, [], false};
+ghost use Rattle.std.specs.Prelude.{◌≡◌, ◌≤◌, [], false, length};
 ghost use Rattle.spe_model.specs.Trace.{after};
 
 use crate::disk::Failed;
@@ -40,6 +40,7 @@ pub struct MemDisk {
     ghost held: { files.content ≡ after log.first log.trace },
     ghost ready: { log.left ≡ files.room },
     ghost fresh: { attached ≡ false → log.trace ≡ [] },
+    ghost whole: { length log.first ≡ 17 },
 }
 
 impl MemDisk {

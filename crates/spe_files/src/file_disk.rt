@@ -89,6 +89,8 @@ impl<R: Files<File = File>> Disk for FileDisk<'_, R> {
 
     ghost fresh = { λ d _. tt };
 
+    ghost whole = { λ d. tt };
+
     fn attach(&mut self, name: &str) -> Result<bool, Failed> {
         self.attached = true;
         match self.files.attach(name) {

@@ -1,5 +1,5 @@
 -- The halves of a run on two pages.
-use Rattle.std.proofs.Common.{◌≡◌, ℕ, ℤ, ◌∙◌, List, [], ◌∷◌, sym, ap, subst, Ok, inr}
+use Rattle.std.proofs.Common.{◌≡◌, ℕ, ℤ, ◌≤◌, ◌∙◌, List, [], ◌∷◌, length, sym, ap, subst, Ok, inr}
 use Rattle.spe_model.specs.declared.page.Cell.{Cell}
 use Rattle.spe_model.specs.declared.page.Kind.TheVariants.{TableInterior}
 use Rattle.spe_model.specs.declared.page.PageCells.{PageCells}
@@ -22,10 +22,10 @@ run_with cells right = record { cells = cells; right = right }
 abbrev node_with : List Cell → ℕ → PageCells
 node_with cells right = record { kind = TableInterior; cells = cells; right = right }
 
-pub halves_laid : {P : Type 0} (g : Ghosts P) → ShiftsBoth g → (s a e : P) (pages : Paging) (page next usable : ℕ) (key : ℤ) (children low high run : Run) → usable ≡ g.used s
+pub halves_laid : {P : Type 0} (g : Ghosts P) → ShiftsBoth g → (s a e : P) (pages : Paging) (page next usable : ℕ) (key : ℤ) (children low high run : Run) → usable ≡ g.used s → 8 ≤ length children.cells
     → IsHalved usable children low key high → Shifts g s a pages (page ∷ []) (page ∷ []) 0 → LaysTwo g a e pages page next (run_cells low) (run_cells high)
     → run ≡ with_first (separator key page) (alone next) → LaysRun g s e pages page children run
-halves_laid g both s a e pages page next usable key children low high run same h first two is =
+halves_laid g both s a e pages page next usable key children low high run same many h first two is =
     let cut : Cut = record { lower = low.cells; middle = h.middle; higher = high.cells; right = high.right } in
     let used : g.used a ≡ g.used s = first.spares.sizes.used in
     let b = sight g e pages in
@@ -43,5 +43,6 @@ halves_laid g both s a e pages page next usable key children low high run same h
         writable = subst (λ (u : ℕ). AreWritable TableInterior u high.cells) same h.writable.1.cells;
       };
       some = h.some;
+      many = many;
       shifts = both s a e pages (page ∷ []) (page ∷ []) (page ∷ next ∷ []) 0 1 first two.shifts;
     })

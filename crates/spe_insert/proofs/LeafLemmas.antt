@@ -1,10 +1,11 @@
 -- Leaves that are written one after the other.
-use Rattle.std.proofs.Common.{◌≡◌, ◌≢◌, ℕ, suc, ◌+◌, ◌<◌, ◌≤◌, ◌∙◌, List, [], ◌∷◌, ◌++◌, All, take, drop, length, map, append_assoc, refl, sym, ap, subst, arith, Option, unwrap_or, Ok}
+use Rattle.std.proofs.Common.{◌≡◌, ◌≢◌, ℕ, suc, ℤ, ◌+◌, ◌<◌, ◌≤◌, ◌∙◌, List, [], ◌∷◌, ◌++◌, All, take, drop, length, map, append_assoc, refl, sym, ap, subst, arith, Option, unwrap_or, Ok}
 use Rattle.std.specs.Prelude.{slice_index_or}
 use Rattle.std.specs.List.{flat_map}
 use Rattle.std.proofs.lemmas.List.{append-nil}
 use Rattle.std.proofs.lemmas.List.Elements.{All-cons, All-nil}
 use Rattle.spe_model.specs.declared.page.Cell.{Cell}
+use Rattle.spe_model.specs.declared.page.Kind.TheVariants.{TableInterior}
 use Rattle.spe_model.specs.declared.page.PageCells.{PageCells}
 use Rattle.spe_model.specs.Page.{page_at}
 use Rattle.spe_model.specs.Paging.{Paging}
@@ -15,9 +16,11 @@ use Rattle.spe_frame.specs.Held.{AreHeld, IsOthers, Shifts, Spares}
 use Rattle.spe_frame.specs.Laws.{ShiftsAlike, ShiftsBeside, ShiftsBoth, SparesBeside, SparesBoth, SparesMore}
 use Rattle.spe_frame.specs.Times.{times}
 use Rattle.spe_frame.proofs.TimesLemmas.{here, times-append}
+use Rattle.spe_format.specs.Canonical.{AreWritable}
 use Rattle.spe_cut.specs.Leaf.{IsLeaf, Leaf, last_key}
-use Rattle.spe_cut.specs.Parts.{leaf_cells}
+use Rattle.spe_cut.specs.Parts.{SeparatorIsWritable, leaf_cells}
 use Rattle.spe_cut.specs.Run.{Run, alone, separator}
+use Rattle.spe_insert.specs.Below.{IsShort}
 use Rattle.spe_insert.specs.Interior.{LaysTwo}
 use Rattle.spe_insert.specs.Leaf.{LaysParts}
 use Rattle.spe_insert.specs.Node.{LaysNode}
@@ -49,9 +52,9 @@ pub node_there : {P : Type 0} (g : Ghosts P) (old mid new : P) (pages : Paging) 
 node_there g old mid new pages page cells lays same =
     ap (λ (o : Option (List ℕ)). page_at (take (g.used old) (unwrap_or o (pages page))) (header_end page)) (same ∙ lays.puts.there) ∙ lays.is
 
-pub parts_end : {P : Type 0} (g : Ghosts P) → SparesMore g → (s a : P) (pages : Paging) (page : ℕ) (part : List Cell) → LaysNode g s a page (leaf_cells part)
+pub parts_end : {P : Type 0} (g : Ghosts P) → SparesMore g → (s a : P) (pages : Paging) (page : ℕ) (part : List Cell) → 1 ≤ length part → LaysNode g s a page (leaf_cells part)
     → Shifts g s a pages (page ∷ []) (page ∷ []) 0 → LaysParts g s a pages page (part ∷ []) (alone page)
-parts_end g more s a pages page part lays shifts = record {
+parts_end g more s a pages page part some lays shifts = record {
   leaves = [];
   end = record { page = page; cells = part };
   run_is = refl;
@@ -59,6 +62,7 @@ parts_end g more s a pages page part lays shifts = record {
   are = All-nil (IsLeaf (g.used s) (sight g a pages));
   last = node_there g s a a pages page (leaf_cells part) lays refl;
   some = All-nil (λ (l : Leaf). 1 ≤ length l.cells);
+  ends = some;
   shifts = shifts_more g more s a pages (page ∷ []) (page ∷ []) 0 1 (omega arith) shifts;
 }
 
@@ -98,6 +102,7 @@ parts_more g both beside alike s a b c pages page next part parts run some turn 
           (subst (λ (u : ℕ). All (IsLeaf u (sight g c pages)) rest.leaves) used rest.are);
       last = subst (λ (u : ℕ). IsLeaf u (sight g c pages) rest.end) used rest.last;
       some = All-cons (λ (l : Leaf). 1 ≤ length l.cells) mine rest.leaves some rest.some;
+      ends = rest.ends;
       shifts = subst (Shifts g s c pages (page ∷ []) (page ∷ ps)) one
           (alike s c pages (page ∷ []) (ps ++ (page ∷ [])) (page ∷ []) (page ∷ ps) (1 + length parts) (λ n. refl) (λ n. omega (arith, times-append n ps (page ∷ []))) all);
     }
@@ -148,5 +153,22 @@ parts_later g both s a c pages page parts run first rest =
       are = subst (λ (u : ℕ). All (IsLeaf u (sight g c pages)) rest.leaves) used rest.are;
       last = subst (λ (u : ℕ). IsLeaf u (sight g c pages) rest.end) used rest.last;
       some = rest.some;
+      ends = rest.ends;
       shifts = later_shifts g both s a c pages page (map (λ (l : Leaf). l.page) rest.leaves ++ (rest.end.page ∷ [])) (length parts) first rest.shifts;
     }
+
+-- runs that are written as leaves are short
+pub short_alone : (usable page : ℕ) (run : Run) → run ≡ alone page → IsShort usable run
+short_alone usable page run is = subst (IsShort usable) (sym is) (record { few = omega arith; writable = tt })
+
+pub short_parts : (usable used : ℕ) (run : Run) (parts : List (List Cell)) → usable ≡ used → length run.cells + 1 ≡ length parts → length parts ≤ 3
+    → AreWritable TableInterior usable run.cells → IsShort used run
+short_parts usable used run parts same count few are = record {
+  few = omega (arith, count, few);
+  writable = subst (λ (u : ℕ). AreWritable TableInterior u run.cells) same are;
+}
+
+pub separators_more : (usable : ℕ) → SeparatorIsWritable → (key : ℤ) (page : ℕ) (all rest : Run) → all ≡ with_first (separator key page) rest
+    → AreWritable TableInterior usable rest.cells → AreWritable TableInterior usable all.cells
+separators_more usable law key page all rest is are =
+    subst (λ (r : Run). AreWritable TableInterior usable r.cells) (sym is) ((law usable key page).0, are)

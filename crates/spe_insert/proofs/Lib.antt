@@ -4,3 +4,12 @@ pub mod RunLemmas
 pub mod LeafLemmas
 pub mod InteriorLemmas
 pub mod PlaceLemmas
+pub mod RunStepLemmas
+pub mod PutBelowLemmas
+pub mod LookLemmas
+pub mod SortLemmas
+pub mod MoveLemmas
+pub mod RootLemmas
+pub mod RaiseLemmas
+pub mod GapLemmas
+pub mod PutLeafLemmas

@@ -28,7 +28,7 @@ pub run_put : (n : ℕ) (cells : List Cell) (right : ℕ) (run : Run) → n ≤ 
     → put_in n run.cells (with_child (place_behind (take n cells) (drop n cells) right) run.right) ≡ with_run (place_behind (take n cells) (drop n cells) right) run
 run_put n cells right run within = put_behind n (take n cells) (drop n cells) right run (length-take-le n cells within)
 
-behind_first : (c : Cell) (before after : List Cell) (right child : ℕ)
+pub behind_first : (c : Cell) (before after : List Cell) (right child : ℕ)
     → with_child (place_behind (c ∷ before) after right) child ≡ with_first c (with_child (place_behind before after right) child)
 behind_first c before [] right child = refl
 behind_first c before (d ∷ ds) right child = refl

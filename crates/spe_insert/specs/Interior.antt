@@ -15,7 +15,7 @@ pub record LaysWhole {P : Type 0} (g : Ghosts P) (old new : P) (pages : Paging) 
   pub holds : HoldsRun (g.used old) (sight g new pages) page children
   pub shifts : Shifts g old new pages (page ∷ []) (page ∷ []) 1
 
--- the page and a new one hold its halves
+-- the page and a new one hold its halves; the children overflowed the page, so they have eight cells at least
 pub record LaysHalves {P : Type 0} (g : Ghosts P) (old new : P) (pages : Paging) (page : ℕ) (children run : Run) : Type 0 where
   pub next : ℕ
   pub cut : Cut
@@ -24,6 +24,7 @@ pub record LaysHalves {P : Type 0} (g : Ghosts P) (old new : P) (pages : Paging)
   pub low : HoldsRun (g.used old) (sight g new pages) page (low_half cut)
   pub high : HoldsRun (g.used old) (sight g new pages) next (high_half cut)
   pub some : (1 ≤ length cut.lower) × (1 ≤ length cut.higher)
+  pub many : 8 ≤ length children.cells
   pub shifts : Shifts g old new pages (page ∷ []) (page ∷ next ∷ []) 1
 
 abbrev pub LaysRun : {P : Type 0} (g : Ghosts P) (old new : P) → Paging → (page : ℕ) (children run : Run) → Type 0

@@ -27,6 +27,7 @@ pub record LaysParts {P : Type 0} (g : Ghosts P) (old new : P) (pages : Paging) 
   pub are : All (IsLeaf (g.used old) (sight g new pages)) leaves
   pub last : IsLeaf (g.used old) (sight g new pages) end
   pub some : All (λ (l : Leaf). 1 ≤ length l.cells) leaves
+  pub ends : 1 ≤ length end.cells
   pub shifts : Shifts g old new pages (page ∷ []) (map (λ (l : Leaf). l.page) leaves ++ (end.page ∷ [])) (length parts)
 
 -- the cells of a leaf are on one leaf, or in parts on up to three

@@ -4,3 +4,9 @@ pub mod Run
 pub mod Leaf
 pub mod Interior
 pub mod Place
+pub mod Below
+pub mod LeafStep
+pub mod Step
+pub mod Laws
+pub mod Insert
+pub mod Root

@@ -9,12 +9,13 @@ ghost use Rattle.spe_format.specs.Canonical.{IsWritable, fits};
 ghost use Rattle.spe_frame.specs.Held.{IsLikely, Spares, WhereHeld};
 ghost use Rattle.spe_cut.specs.Parts.{need, room, run_cells};
 ghost use Rattle.spe_write.specs.Chain.{IsLikelyOfTree};
+ghost use Rattle.spe_insert.specs.Below.{IsShort};
 ghost use Rattle.spe_insert.specs.Interior.{LaysRun, LaysTwo};
 ghost use Rattle.spe_insert.specs.Run.{run_of};
 
 use crate::node::{lay_lower, lay_node};
 use crate::run::{Run, one_child, run_behind};
-use spe_cut::{Halves, interior_parts};
+use spe_cut::{Halves, interior_parts, room_law};
 use spe_frame::{shifts_law, take_page};
 use spe_model::{Cells, Kind, PageCells};
 use spe_space::{PageSpace, SpaceFault, TreeFault};
@@ -77,6 +78,7 @@ pub fn lay_interior<S: PageSpace>(
     requires few { need TableInterior children.cells ≤ room TableInterior 0 (S.Pages.used space.old) + 30 }
     ensures laid { IfOk result (λ run. WhereHeld S.Pages space.old space.new (page ∷ []) (λ pages.
         page ≢ 1 → LaysRun S.Pages space.old space.new pages page (run_of children) (run_of run))) }
+    ensures short { IfOk result (λ run. IsShort (S.Pages.used space.old) (run_of run)) }
     ensures spares { WhereHeld S.Pages space.old space.new (page ∷ []) (λ pages.
         page ≢ 1 → Spares S.Pages space.old space.new pages (page ∷ []) 1) }
     ensures likely { WhereHeld S.Pages space.old space.new (page ∷ []) (λ pages.
@@ -85,6 +87,7 @@ pub fn lay_interior<S: PageSpace>(
     ensures refusal { RefusesTree S.Pages space.old space.new result }
 {
     shifts_law(space);
+    room_law();
     let usable = space.usable();
     let Run { cells, right } = children;
     let node = PageCells {

@@ -4,16 +4,17 @@ ghost use Rattle.std.specs.Prelude.{◌≡◌, ◌≢◌, ◌≤◌, ◌<◌, �
 ghost use Rattle.spe_model.specs.Paging.{Paging};
 ghost use Rattle.spe_space.specs.Calls.{Keeps, RefusesTree};
 ghost use Rattle.spe_frame.specs.Held.{Spares, WhereHeld};
-ghost use Rattle.spe_model.specs.declared.page.Kind.TheVariants.{TableLeaf};
-ghost use Rattle.spe_format.specs.Canonical.{IsWritable};
+ghost use Rattle.spe_model.specs.declared.page.Kind.TheVariants.{TableInterior, TableLeaf};
+ghost use Rattle.spe_format.specs.Canonical.{AreWritable, IsWritable};
 ghost use Rattle.spe_cut.specs.Parts.{leaf_cells, need, room, without};
 ghost use Rattle.spe_write.specs.Chain.{IsLikelyOfTree};
+ghost use Rattle.spe_insert.specs.Below.{IsShort, first_child};
 ghost use Rattle.spe_insert.specs.Leaf.{IsPart, LaysLeaf, LaysParts};
 ghost use Rattle.spe_insert.specs.Run.{run_of};
 
 use crate::node::{lay_lower, lay_node};
 use crate::run::{Run, last_key_of, one_child, run_behind};
-use spe_cut::leaf_parts;
+use spe_cut::{leaf_parts, room_law};
 use spe_frame::{shifts_law, take_page};
 use spe_model::{Cells, Kind, PageCells};
 use spe_space::{PageSpace, TreeFault};
@@ -36,6 +37,9 @@ pub fn lay_parts<S: PageSpace>(
     requires parts { All (IsPart (S.Pages.used space.old)) parts.items }
     ensures laid { IfOk result (λ run. WhereHeld S.Pages space.old space.new (page ∷ []) (λ pages.
         page ≢ 1 → LaysParts S.Pages space.old space.new pages page parts.items (run_of run))) }
+    ensures first { IfOk result (λ run. first_child (run_of run) ≡ page) }
+    ensures count { IfOk result (λ run. length run.cells + 1 ≡ length parts.items) }
+    ensures separators { IfOk result (λ run. AreWritable TableInterior (S.Pages.used space.old) run.cells) }
     ensures spares { WhereHeld S.Pages space.old space.new (page ∷ []) (λ pages.
         page ≢ 1 → Spares S.Pages space.old space.new pages (page ∷ []) (length parts.items)) }
     ensures likely { WhereHeld S.Pages space.old space.new (page ∷ []) (λ pages.
@@ -44,6 +48,7 @@ pub fn lay_parts<S: PageSpace>(
     ensures refusal { RefusesTree S.Pages space.old space.new result }
 {
     shifts_law(space);
+    room_law();
     let mut parts = parts;
     let cells = parts.remove(0);
     let key = last_key_of(cells.as_slice());
@@ -91,6 +96,8 @@ pub fn lay_leaf<S: PageSpace>(
     requires fits { need TableLeaf (without place cells) ≤ room TableLeaf 0 (S.Pages.used space.old) }
     ensures laid { IfOk result (λ run. WhereHeld S.Pages space.old space.new (page ∷ []) (λ pages.
         page ≢ 1 → LaysLeaf S.Pages space.old space.new pages page cells (run_of run))) }
+    ensures first { IfOk result (λ run. first_child (run_of run) ≡ page) }
+    ensures short { IfOk result (λ run. IsShort (S.Pages.used space.old) (run_of run)) }
     ensures spares { WhereHeld S.Pages space.old space.new (page ∷ []) (λ pages.
         page ≢ 1 → Spares S.Pages space.old space.new pages (page ∷ []) 3) }
     ensures likely { WhereHeld S.Pages space.old space.new (page ∷ []) (λ pages.

@@ -6,16 +6,24 @@
 //! answers.
 #![tactic(auto)]
 
+mod below;
 mod cell;
 mod interior;
+mod law;
 mod leaf;
+mod leaf_step;
+mod look;
 mod node;
 mod place;
+mod root;
+mod row;
 mod run;
+mod run_step;
 
 pub use cell::write_cell;
 pub use interior::lay_interior;
 pub use leaf::{lay_leaf, lay_parts};
 pub use node::{lay_lower, lay_node};
 pub use place::{place_of, with_children};
+pub use row::insert;
 pub use run::Run;

@@ -1,6 +1,7 @@
 //! Runs of children.
 
 ghost use Rattle.std.specs.Prelude.{◌≡◌, ◌∷◌, [], length, IfOk};
+ghost use Rattle.spe_model.specs.Page.{ascends};
 ghost use Rattle.spe_cut.specs.Leaf.{last_key};
 ghost use Rattle.spe_cut.specs.Run.{alone, separator};
 ghost use Rattle.spe_insert.specs.Run.{run_of, with_first};
@@ -60,4 +61,23 @@ pub(crate) fn last_key_of(cells: &[Cell]) -> i64
         left = rest;
     }
     key
+}
+
+/// Whether the rowids of cells ascend.
+pub(crate) fn ascends_in(cells: &[Cell]) -> bool
+    ensures { result ≡ ascends cells.now }
+{
+    let [first, rest @ ..] = cells else {
+        return true;
+    };
+    let mut key = first.key;
+    let mut left = rest;
+    while let [cell, rest @ ..] = left {
+        if cell.key <= key {
+            return false;
+        }
+        key = cell.key;
+        left = rest;
+    }
+    true
 }

@@ -6,15 +6,8 @@ use Rattle.std.proofs.lemmas.Bool.Decides.{nat_tests}
 use Rattle.spe_model.specs.Varint.{varint_from, varint_of}
 use Rattle.spe_model.specs.Serial.{types_from, types_at}
 
-abbrev pub behind : List ℕ → Option (List ℕ) → Option (List ℕ)
-behind front found = option_map (λ ts. front ++ ts) found
-
 abbrev pub led_by : ℕ → Option (List ℕ) → Option (List ℕ)
 led_by t found = option_map (λ ts. t ∷ ts) found
-
-pub behind_one : (front : List ℕ) (t : ℕ) (found : Option (List ℕ)) → behind (front ++ t ∷ []) found ≡ behind front (led_by t found)
-behind_one front t None = refl
-behind_one front t (Some ts) = simp append_assoc
 
 abbrev value_in : Option (ℕ × ℕ) → ℕ
 value_in None = 0
@@ -107,22 +100,3 @@ types_one bytes v n e =
 pub types_none : (bytes : List ℕ) → 0 < length bytes → varint_of bytes ≡ nothing → types_at bytes ≡ no_types
 unfolding varint_of types_at
 types_none bytes some e = types_from_none bytes 0 0 (omega arith) e
-
-pub behind_nothing : (found : Option (List ℕ)) → behind [] found ≡ found
-behind_nothing None = refl
-behind_nothing (Some ts) = refl
-
--- a turn of the loop
-pub types_turn : (front left whole : List ℕ) (v n : ℕ) → varint_of left ≡ found v n → behind front (types_at left) ≡ types_at whole
-    → behind (front ++ v ∷ []) (types_at (drop n left)) ≡ types_at whole
-types_turn front left whole v n e same = behind_one front v (types_at (drop n left)) ∙ (ap (behind front) (sym (types_one left v n e)) ∙ same)
-
--- its end
-pub types_end : (front left whole : List ℕ) → length left ≡ 0 → behind front (types_at left) ≡ types_at whole → types_at whole ≡ Some front
-unfolding types_at
-types_end front [] whole e same = sym same ∙ simp append-nil
-types_end front (b ∷ bs) whole e same = absurd (omega arith)
-
--- its stop
-pub types_stop : (front left whole : List ℕ) → 0 < length left → varint_of left ≡ nothing → behind front (types_at left) ≡ types_at whole → types_at whole ≡ no_types
-types_stop front left whole some e same = sym same ∙ ap (behind front) (types_none left some e)

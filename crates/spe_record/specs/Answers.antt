@@ -1,10 +1,11 @@
 -- What a reader of records may answer, given what reading gives. Memory may run out at any time.
-use Rattle.std.specs.Prelude.{◌≡◌, ℕ, Bool, true, false, List, Option, Some, None, Result, Ok, Err}
+use Rattle.std.specs.Prelude.{◌≡◌, ℕ, Bool, true, false, List, [], length, Option, Some, None, Result, Ok, Err, if◌then◌else◌}
 use Rattle.std.specs.Str.{is_utf8}
 use Rattle.spe_model.specs.declared.value.Value.{Value}
 use Rattle.spe_model.specs.declared.record.RecordFault.{RecordFault}
-use Rattle.spe_model.specs.declared.record.RecordFault.TheVariants.{HeaderLength, NotUtf8, Memory}
-use Rattle.spe_model.specs.Record.{is_text, are_texts}
+use Rattle.spe_model.specs.declared.record.RecordFault.TheVariants.{NotUtf8, Memory}
+use Rattle.spe_model.specs.Record.{is_text, are_texts, record_of_types, values_of}
+use Rattle.spe_model.specs.Serial.{total}
 
 abbrev pub Fails : {X : Type 0} → RecordFault → Result X RecordFault → Type 0
 Fails Memory reading = Unit {0}
@@ -15,15 +16,24 @@ abbrev pub Gives : {X : Type 0} → Result X RecordFault → Result X RecordFaul
 Gives (Ok x) reading = reading ≡ Ok x
 Gives (Err fault) reading = Fails fault reading
 
-abbrev pub NoTypes : {Y : Type 0} → RecordFault → Option Y → Type 0
-NoTypes HeaderLength found = found ≡ None
-NoTypes Memory found = Unit {0}
-NoTypes _ found = ⊥
+-- serial types whose values take so many bytes
+abbrev pub Fills : Option (List ℕ) → ℕ → Type 0
+Fills None bytes = ⊥
+Fills (Some types) bytes = total types ≡ bytes
 
--- the answer, seen so, is what is found, or HeaderLength where nothing is, or Memory
-abbrev pub FindsTypes : {X Y : Type 0} → (X → Y) → Result X RecordFault → Option Y → Type 0
-FindsTypes view (Ok x) found = found ≡ Some (view x)
-FindsTypes view (Err fault) found = NoTypes fault found
+-- the values of serial types, where there are some
+abbrev pub values_at : Option (List ℕ) → List ℕ → List Value
+values_at None body = []
+values_at (Some types) body = values_of types body
+
+-- the values, where each text is UTF-8
+abbrev pub of_texts : List Value → Result (List Value) RecordFault
+of_texts values = if are_texts values then Ok values else Err NotUtf8
+
+-- serial types fill a body, so that its texts alone decide; or they are the fault
+abbrev pub TriesLengths : Result (Unit {0}) RecordFault → Option (List ℕ) → List ℕ → Type 0
+TriesLengths (Ok done) types body = Fills types (length body) × (record_of_types types body ≡ of_texts (values_at types body))
+TriesLengths (Err fault) types body = record_of_types types body ≡ Err fault
 
 -- a fault of values: NotUtf8 where this test of their texts fails, or Memory
 abbrev pub NoTexts : RecordFault → Bool → Type 0

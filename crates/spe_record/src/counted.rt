@@ -57,7 +57,7 @@ fn seen_with(seen: Seen, kind: u64, bytes: &[u8]) -> Seen
 }
 
 // What the serial types say that fill some bytes, or None where the last is cut off.
-fn seen_of(types: &[u8], body: &[u8]) -> Option<Seen>
+pub fn seen_of(types: &[u8], body: &[u8]) -> Option<Seen>
     ensures { result ≡ option_map (seen_of body.now) (types_at types.now) }
 {
     let mut seen = Seen {
@@ -80,7 +80,7 @@ fn seen_of(types: &[u8], body: &[u8]) -> Option<Seen>
 }
 
 // How many values there are in a body of so many bytes, or the lowest fault.
-fn judged(seen: Seen, body: u64) -> Result<usize, RecordFault>
+pub fn judged(seen: Seen, body: u64) -> Result<usize, RecordFault>
     ensures { result ≡ judged seen body }
 {
     if seen.reserved {

@@ -1,12 +1,13 @@
 //! The values of a record.
 
 ghost use Rattle.std.specs.Prelude.{◌≡◌, length};
-ghost use Rattle.spe_model.specs.Serial.{size_of, total};
-ghost use Rattle.spe_model.specs.Record.{value_of, values_of};
-ghost use Rattle.spe_record.specs.Answers.{GivesValue, GivesValues, GivesText};
+ghost use Rattle.spe_model.specs.Serial.{size_of, types_at};
+ghost use Rattle.spe_model.specs.Record.{value_of};
+ghost use Rattle.spe_record.specs.Answers.{Fills, GivesValue, GivesValues, GivesText, values_at};
 
 use crate::types::size;
 use byteorder::{BigEndian, ByteOrder};
+use spe_format::read_varint;
 use spe_model::{Bytes, RecordFault, Text, Value};
 use std::alloc::Global;
 
@@ -43,21 +44,24 @@ fn value(alloc: Global, kind: u64, bytes: &[u8]) -> Result<Value, RecordFault>
     }
 }
 
-// The values of these serial types, one after the other.
-pub fn values_from(alloc: Global, types: &[u64], bytes: &[u8]) -> Result<Vec<Value>, RecordFault>
-    requires { total types.now ≡ length bytes.now }
-    ensures { GivesValues (λ v. v.items) result (values_of types.now bytes.now) }
+// The values of the serial types that fill some bytes, one after the other.
+pub fn values_from(alloc: Global, types: &[u8], bytes: &[u8]) -> Result<Vec<Value>, RecordFault>
+    requires { Fills (types_at types.now) (length bytes.now) }
+    ensures { GivesValues (λ v. v.items) result (values_at (types_at types.now) bytes.now) }
 {
     let mut found = Vec::new(alloc);
     let mut left = types;
     let mut body = bytes;
-    while let [kind, rest @ ..] = left {
-        let (front, after) = body.split_at(size(*kind) as usize);
-        match value(alloc, *kind, front) {
+    while !left.is_empty() {
+        let Some((kind, len)) = read_varint(left) else {
+            unreachable!();
+        };
+        let (front, after) = body.split_at(size(kind) as usize);
+        match value(alloc, kind, front) {
             Ok(value) => found.push(value)?,
             Err(fault) => return Err(fault),
         }
-        left = rest;
+        (_, left) = left.split_at(len);
         body = after;
     }
     Ok(found)

@@ -99,6 +99,15 @@ ends {t} {u} {f} {g} {p} {q} {text} a = subst (Passes t u f g p q) (sym (a.whole
 pub printed : {t u : Option (List ℕ)} {f g : ℕ} {p q : Option (List ℕ)} {x y : List ℕ} → x ≡ y → Passes t u f g p q x → Passes t u f g p q y
 printed {t} {u} {f} {g} {p} {q} e a = subst (Passes t u f g p q) e a
 
+-- a turn of a loop that cuts a part off in two pieces, and the last part
+pub cut_off : {t u v w : Option (List ℕ)} {i g h j : ℕ} {p q r s : Option (List ℕ)} {text rest more one two : List ℕ}
+    → rest ≡ (one ++ two) ++ more → PassesFront t u i g p q text rest → Passes u v g h q r one → Passes v w h j r s two → PassesFront t w i j p s text more
+cut_off {t} {u} {v} {w} {i} {g} {h} {j} {p} {q} {r} {s} {text} e a x y = goes_on (subst (PassesFront t u i g p q text) e a) (then x y)
+
+pub last_part : {t u v : Option (List ℕ)} {i g h : ℕ} {p q r : Option (List ℕ)} {text rest part : List ℕ}
+    → rest ≡ part → PassesFront t u i g p q text rest → Passes u v g h q r part → Passes t v i h p r text
+last_part {t} {u} {v} {i} {g} {h} {p} {q} {r} {text} {rest} {part} e a b = ends (goes_on (subst (PassesFront t u i g p q text) (e ∙ sym (append-nil part)) a) b)
+
 -- a list that is not empty
 pub first_and_rest : {A : Type 0} (left : List A) (x d : A) → 1 ≤ length left → x ≡ get_or left 0 d → left ≡ x ∷ take (length left - 1) (drop 1 left)
 first_and_rest [] x d some is = absurd (omega arith)

@@ -63,6 +63,14 @@ impl Printer {
         self.has_failed || self.waiting.try_extend_from_slice(bytes).is_ok()
     }
 
+    // The same of one byte.
+    fn keep_byte(&mut self, byte: u8) -> bool
+        ensures kept { IsTrue result → Keeps self.old self.new (byte ∷ []) }
+        ensures same { IsFalse result → self.new ≡ self.old }
+    {
+        self.has_failed || self.waiting.try_push(byte).is_ok()
+    }
+
     // Puts bytes where nothing waits before them.
     fn put<W: Sink>(&mut self, sink: &mut W, bytes: &[u8])
         requires { HasNone self.old }
@@ -101,7 +109,10 @@ impl Printer {
     pub fn byte<W: Sink>(&mut self, sink: &mut W, byte: u8)
         ensures { Passes (W.taken sink.old) (W.taken sink.new) (W.faults sink.old) (W.faults sink.new) self.old self.new (byte ∷ []) }
     {
-        self.bytes(sink, &[byte]);
+        if self.keep_byte(byte) {
+            return;
+        }
+        self.flush_and_print(sink, &[byte]);
     }
 
     /// Prints a number that is not negative.

@@ -3,32 +3,25 @@
 ghost use Rattle.std.specs.Prelude.{◌≡◌, ◌∷◌, []};
 ghost use Rattle.hex.specs.Hex.{encode_lower};
 ghost use Rattle.spe_render.specs.Passes.{Passes};
-ghost use Rattle.spe_render.specs.Values.{barred, barred_value, joined, quoted, quoted_byte, row_text, rows_text, value_text};
+ghost use Rattle.spe_render.specs.Values.{barred, barred_value, joined, quoted, row_text, rows_text, value_text};
 
 use crate::printer::Printer;
+use memchr::memchr;
 use spe_disk::Sink;
 use spe_model::{Value, Values};
-
-// Prints a byte of a text, a quote doubled.
-fn put_quoted_byte<W: Sink>(out: &mut Printer, sink: &mut W, byte: u8)
-    ensures { Passes (W.taken sink.old) (W.taken sink.new) (W.faults sink.old) (W.faults sink.new) out.old out.new (quoted_byte byte) }
-{
-    if byte == b'\'' {
-        out.bytes(sink, b"''");
-    } else {
-        out.byte(sink, byte);
-    }
-}
 
 // Prints a text with each quote doubled.
 fn put_quoted<W: Sink>(out: &mut Printer, sink: &mut W, text: &[u8])
     ensures { Passes (W.taken sink.old) (W.taken sink.new) (W.faults sink.old) (W.faults sink.new) out.old out.new (quoted text.now) }
 {
     let mut left = text;
-    while let [byte, rest @ ..] = left {
-        put_quoted_byte(out, sink, *byte);
-        left = rest;
+    while let Some(place) = memchr(b'\'', left) {
+        let (run, rest) = left.split_at(place);
+        out.bytes(sink, run);
+        out.bytes(sink, b"''");
+        (_, left) = rest.split_at(1);
     }
+    out.bytes(sink, left);
 }
 
 // Prints the two hexadecimal digits of a byte.

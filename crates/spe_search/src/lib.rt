@@ -14,6 +14,7 @@ mod search;
 
 pub use last::largest;
 pub use law::{spans_the_table, touches_the_tree};
+pub use page::{Flaw, Found, Step, step_in};
 pub use pairs::{LeafPairs, Pair, Pairs};
 pub use rows::{range, range_with_leaves};
 pub use search::find;

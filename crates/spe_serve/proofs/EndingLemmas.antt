@@ -10,7 +10,7 @@ use Rattle.spe_serve.specs.declared.outcome.Outcome.TheVariants as outcomes
 use Rattle.spe_serve.specs.declared.reply.Reply.{Reply}
 use Rattle.spe_serve.specs.declared.reply.Reply.TheVariants as replies
 use Rattle.spe_serve.specs.Ending.{Ends, EndsOnFailure, EndsRefused, IsOutcome, IsReply, Prints, PrintsOutcome, SinkFailsOnce, outcome_text}
-use Rattle.spe_serve.specs.Made.{IsMadeAt, IsMadeFor}
+use Rattle.spe_serve.specs.Made.{IsMadeAt, IsMadeFor, IsMadeOf}
 use Rattle.spe_serve.specs.Reply.{AskForNone, IsAbout, status_of}
 
 apart : (a b : ℕ) → (a == b) ≡ false → a ≡ b → ⊥
@@ -53,49 +53,54 @@ asks_none : (words : List (List ℕ)) (told : Option History) (reply : Reply) �
 asks_none words told reply (inl (none, is)) e = none
 asks_none words told reply (inr (c, asked, right)) e = absurd (never_words c (subst (IsAbout c) e right.about))
 
-pub ends_unasked : {W : Type 0} (g : Ghosts W) (before now : W) (words : List (List ℕ)) (told : Option History) (rose : Type 0) (status : ℕ)
-    → Ends g before now words told rose status → status ≡ 1 → AskForNone words
-ends_unasked g before now words told rose status (outcomes.Answered reply, of, inl (all, is)) one = asks_none words told reply of (status_one reply (sym is ∙ one))
-ends_unasked g before now words told rose status (outcomes.Answered reply, of, inr (within, is)) one = absurd (apart 3 1 refl (sym is ∙ one))
-ends_unasked g before now words told rose status (outcomes.DiskFailed, of, inl (all, is)) one = absurd (apart 3 1 refl (sym is ∙ one))
-ends_unasked g before now words told rose status (outcomes.DiskFailed, of, inr (within, is)) one = absurd (apart 3 1 refl (sym is ∙ one))
-ends_unasked g before now words told rose status (outcomes.NoMemory, of, inl (all, is)) one = absurd (apart 4 1 refl (sym is ∙ one))
-ends_unasked g before now words told rose status (outcomes.NoMemory, of, inr (within, is)) one = absurd (apart 3 1 refl (sym is ∙ one))
+pub ends_unasked : {W : Type 0} (g : Ghosts W) (before now : W) (words : List (List ℕ)) (told : Option History) (rose : Type 0) (IsMade : Outcome → Type 0) (status : ℕ)
+    → Ends g before now words told rose IsMade status → status ≡ 1 → AskForNone words
+ends_unasked g before now words told rose IsMade status (outcomes.Answered reply, of, made, inl (all, is)) one = asks_none words told reply of (status_one reply (sym is ∙ one))
+ends_unasked g before now words told rose IsMade status (outcomes.Answered reply, of, made, inr (within, is)) one = absurd (apart 3 1 refl (sym is ∙ one))
+ends_unasked g before now words told rose IsMade status (outcomes.DiskFailed, of, made, inl (all, is)) one = absurd (apart 3 1 refl (sym is ∙ one))
+ends_unasked g before now words told rose IsMade status (outcomes.DiskFailed, of, made, inr (within, is)) one = absurd (apart 3 1 refl (sym is ∙ one))
+ends_unasked g before now words told rose IsMade status (outcomes.NoMemory, of, made, inl (all, is)) one = absurd (apart 4 1 refl (sym is ∙ one))
+ends_unasked g before now words told rose IsMade status (outcomes.NoMemory, of, made, inr (within, is)) one = absurd (apart 3 1 refl (sym is ∙ one))
 
 refused_status : {W : Type 0} (g : Ghosts W) (before now : W) (words : List (List ℕ)) (told : Option History) (reply : Reply) (status : ℕ) → IsReply words told reply
     → status ≡ status_of reply → AskForNone words → EndsRefused g before now status
 refused_status g before now words told reply status (inl (none, e)) is asks = inl (is ∙ ap status_of e)
 refused_status g before now words told reply status (inr (c, asked, right)) is asks = absurd (asks c asked)
 
-pub ends_refused : {W : Type 0} (g : Ghosts W) (before now : W) (words : List (List ℕ)) (told : Option History) (rose : Type 0) (status : ℕ)
-    → Ends g before now words told rose status → AskForNone words → EndsRefused g before now status
-ends_refused g before now words told rose status (outcomes.Answered reply, of, inl (all, is)) asks = refused_status g before now words told reply status of is asks
-ends_refused g before now words told rose status (outcomes.Answered reply, of, inr (within, is)) asks = inr (inr (is, within.count))
-ends_refused g before now words told rose status (outcomes.DiskFailed, of, prints) asks = absurd (asks of.0 of.1)
-ends_refused g before now words told rose status (outcomes.NoMemory, of, inl (all, is)) asks = inr (inl is)
-ends_refused g before now words told rose status (outcomes.NoMemory, of, inr (within, is)) asks = inr (inr (is, within.count))
+pub ends_refused : {W : Type 0} (g : Ghosts W) (before now : W) (words : List (List ℕ)) (told : Option History) (rose : Type 0) (IsMade : Outcome → Type 0) (status : ℕ)
+    → Ends g before now words told rose IsMade status → AskForNone words → EndsRefused g before now status
+ends_refused g before now words told rose IsMade status (outcomes.Answered reply, of, made, inl (all, is)) asks = refused_status g before now words told reply status of is asks
+ends_refused g before now words told rose IsMade status (outcomes.Answered reply, of, made, inr (within, is)) asks = inr (inr (is, within.count))
+ends_refused g before now words told rose IsMade status (outcomes.DiskFailed, of, made, prints) asks = absurd (asks of.0 of.1)
+ends_refused g before now words told rose IsMade status (outcomes.NoMemory, of, made, inl (all, is)) asks = inr (inl is)
+ends_refused g before now words told rose IsMade status (outcomes.NoMemory, of, made, inr (within, is)) asks = inr (inr (is, within.count))
 
-pub ends_fault : {W : Type 0} (g : Ghosts W) (before now : W) (words : List (List ℕ)) (told : Option History) (rose : Type 0) (status : ℕ)
-    → Ends g before now words told rose status → status ≡ 3 → rose ⊎ SinkFailsOnce g before now
-ends_fault g before now words told rose status (outcomes.Answered reply, of, inl (all, is)) e = absurd (no_fault reply (sym is ∙ e))
-ends_fault g before now words told rose status (outcomes.Answered reply, of, inr (within, is)) e = inr within.count
-ends_fault g before now words told rose status (outcomes.DiskFailed, of, inl (all, is)) e = inl of.3
-ends_fault g before now words told rose status (outcomes.DiskFailed, of, inr (within, is)) e = inr within.count
-ends_fault g before now words told rose status (outcomes.NoMemory, of, inl (all, is)) e = absurd (apart 4 3 refl (sym is ∙ e))
-ends_fault g before now words told rose status (outcomes.NoMemory, of, inr (within, is)) e = inr within.count
+pub ends_fault : {W : Type 0} (g : Ghosts W) (before now : W) (words : List (List ℕ)) (told : Option History) (rose : Type 0) (IsMade : Outcome → Type 0) (status : ℕ)
+    → Ends g before now words told rose IsMade status → status ≡ 3 → rose ⊎ SinkFailsOnce g before now
+ends_fault g before now words told rose IsMade status (outcomes.Answered reply, of, made, inl (all, is)) e = absurd (no_fault reply (sym is ∙ e))
+ends_fault g before now words told rose IsMade status (outcomes.Answered reply, of, made, inr (within, is)) e = inr within.count
+ends_fault g before now words told rose IsMade status (outcomes.DiskFailed, of, made, inl (all, is)) e = inl of.3
+ends_fault g before now words told rose IsMade status (outcomes.DiskFailed, of, made, inr (within, is)) e = inr within.count
+ends_fault g before now words told rose IsMade status (outcomes.NoMemory, of, made, inl (all, is)) e = absurd (apart 4 3 refl (sym is ∙ e))
+ends_fault g before now words told rose IsMade status (outcomes.NoMemory, of, made, inr (within, is)) e = inr within.count
 
-pub ends_on_failure : {W : Type 0} (g : Ghosts W) (before now : W) (words : List (List ℕ)) (told : Option History) (rose : Type 0) (status : ℕ)
-    → Ends g before now words told rose status → EndsOnFailure g before now status
-ends_on_failure g before now words told rose status (outcome, of, inl (all, is)) = inl all.count
-ends_on_failure g before now words told rose status (outcome, of, inr (within, is)) = inr (is, within.count)
+pub ends_on_failure : {W : Type 0} (g : Ghosts W) (before now : W) (words : List (List ℕ)) (told : Option History) (rose : Type 0) (IsMade : Outcome → Type 0) (status : ℕ)
+    → Ends g before now words told rose IsMade status → EndsOnFailure g before now status
+ends_on_failure g before now words told rose IsMade status (outcome, of, made, inl (all, is)) = inl all.count
+ends_on_failure g before now words told rose IsMade status (outcome, of, made, inr (within, is)) = inr (is, within.count)
+
+-- where there was no memory for the text of an answer, all the same was made
+lost : (words : List (List ℕ)) (old new : Option History) (reply : Reply) → IsMadeOf words old new (outcomes.Answered reply) → IsMadeOf words old new outcomes.NoMemory
+lost words old new reply made = λ c asked. record { part = (made c asked).part; whole = inr (made c asked).whole; settled = λ built. tt }
 
 -- the outcome whose text was printed: where there was no memory for it, want of memory
-pub ends_by : {W : Type 0} (g : Ghosts W) (before now : W) (words : List (List ℕ)) (told : Option History) (rose : Type 0) (outcome : Outcome) (status : ℕ)
-    → IsOutcome words told rose outcome → PrintsOutcome g before now outcome status → Ends g before now words told rose status
-ends_by g before now words told rose (outcomes.Answered reply) status of (inl prints) = (outcomes.Answered reply, of, prints)
-ends_by g before now words told rose (outcomes.Answered reply) status of (inr prints) = (outcomes.NoMemory, tt, prints)
-ends_by g before now words told rose outcomes.DiskFailed status of prints = (outcomes.DiskFailed, of, prints)
-ends_by g before now words told rose outcomes.NoMemory status of prints = (outcomes.NoMemory, of, prints)
+pub ends_by : {W : Type 0} (g : Ghosts W) (before now : W) (words : List (List ℕ)) (told : Option History) (rose : Type 0) (old new : Option History) (outcome : Outcome) (status : ℕ)
+    → IsOutcome words told rose outcome → IsMadeOf words old new outcome → PrintsOutcome g before now outcome status
+    → Ends g before now words told rose (IsMadeOf words old new) status
+ends_by g before now words told rose old new (outcomes.Answered reply) status of made (inl prints) = (outcomes.Answered reply, of, made, prints)
+ends_by g before now words told rose old new (outcomes.Answered reply) status of made (inr prints) = (outcomes.NoMemory, tt, lost words old new reply made, prints)
+ends_by g before now words told rose old new outcomes.DiskFailed status of made prints = (outcomes.DiskFailed, of, made, prints)
+ends_by g before now words told rose old new outcomes.NoMemory status of made prints = (outcomes.NoMemory, of, made, prints)
 
 -- what was made, by the status
 status_three : {W : Type 0} (g : Ghosts W) (before now : W) (text : List ℕ) (status : ℕ) → Prints g before now text 3 status → status ≡ 3

@@ -11,6 +11,6 @@ pub mod AskLemmas
 pub mod FileLemmas
 pub mod RefusedLemmas
 pub mod OutcomeLemmas
-pub mod StopLemmas
+pub mod CrashLemmas
 pub mod MadeLemmas
 pub mod EndingLemmas

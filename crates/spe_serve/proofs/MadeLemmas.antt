@@ -1,6 +1,6 @@
 -- What a command does to the files, by what recovery did.
-use Rattle.std.proofs.Common.{◌≡◌, ℕ, List, [], ◌∷◌, refl, sym, ap, subst, ◌∙◌, inl, Bool, true, false, Option, Some, None, Result, Ok, Err}
-use Rattle.std.specs.Prelude.{is_some}
+use Rattle.std.proofs.Common.{◌≡◌, ℕ, List, [], ◌∷◌, refl, sym, ap, subst, ◌∙◌, inl, inr, Bool, true, false, Option, Some, None, Result, Ok, Err}
+use Rattle.std.specs.Prelude.{◌⊎◌, is_some}
 use Rattle.std.proofs.lemmas.List.{append-nil}
 use Rattle.spe_model.specs.declared.file.FileNo.TheVariants.{Database}
 use Rattle.spe_model.specs.declared.recovery.Recovered.{Recovered}
@@ -30,7 +30,7 @@ use Rattle.spe_serve.specs.Answer.{is_built}
 use Rattle.spe_serve.specs.Ending.{outcome_of, refused_for}
 use Rattle.spe_serve.specs.Made.{AreOperationsOf, AreOwnOver, ArePartOf, IsMadeFor, MakesAll, MakesPart, RollsBackFirst, Settles}
 use Rattle.spe_serve.proofs.OutcomeLemmas.{none_bytes}
-use Rattle.spe_serve.proofs.StopLemmas.{absent_refused, is_refused}
+use Rattle.spe_serve.proofs.CrashLemmas.{absent_refused, is_refused}
 
 -- nothing is recovered of the content
 abbrev pub IsUnrecovered : Content → Type 0
@@ -135,15 +135,15 @@ unbuilt_for c told reply unbuilt = record { part = part_none c told; whole = who
 disk_failed : (c : Command) (old new : Option History) → MakesPart c old new → IsMadeFor c old new outcomes.DiskFailed
 disk_failed c old new part = record { part = part; whole = tt; settled = λ built. tt }
 
-no_memory : (c : Command) (old new : Option History) → MakesPart c old new → IsMadeFor c old new outcomes.NoMemory
-no_memory c old new part = record { part = part; whole = tt; settled = λ built. tt }
+no_memory : (c : Command) (old new : Option History) → MakesPart c old new → (new ≡ old) ⊎ MakesAll c old new → IsMadeFor c old new outcomes.NoMemory
+no_memory c old new part none_or_all = record { part = part; whole = none_or_all; settled = λ built. tt }
 
 -- nothing was done, as the disk failed before, or there was no memory
 pub never_attached : (c : Command) (told new : Option History) → new ≡ told → IsMadeFor c told new outcomes.DiskFailed
 never_attached c told new same = subst (λ (n : Option History). IsMadeFor c told n outcomes.DiskFailed) (sym same) (disk_failed c told told (part_none c told))
 
 pub never_read : (c : Command) (told : Option History) → IsMadeFor c told told outcomes.NoMemory
-never_read c told = no_memory c told told (part_none c told)
+never_read c told = no_memory c told told (part_none c told) (inl refl)
 
 -- there is no file to recover
 pub absent_for : (c : Command) (told new : Option History) → is_built c ≡ true → new ≡ told → Finds told (Ok false) → IsMadeFor c told new (outcomes.Answered replies.NoDatabase)
@@ -167,7 +167,7 @@ rolled_for c old mid new found result built has made settled cut same = subst (�
       settled = λ is. settled_found old mid found has settled;
     }
     of_result (Err failures.Disk) = disk_failed c old mid (part_cut c old mid built cut)
-    of_result (Err failures.Memory) = no_memory c old mid (part_cut c old mid built cut)
+    of_result (Err failures.Memory) = no_memory c old mid (part_cut c old mid built cut) (inr (whole_rolled c old mid found built has made))
 
 refused_with : (told : Option History) (fault : RecoverFault) → IfTold told (λ content. recovered content ≡ Err fault) → IfTold told IsUnrecovered
 refused_with None fault is = tt
@@ -181,7 +181,7 @@ wanted_any (Some h) is = absurd (let no_want = is.unwanted in cc)
 pub refused_for_all : (c : Command) (old new : Option History) (fault : RecoverFault) → is_built c ≡ true → IfTold old (IsRefusal Any fault)
     → (IsPlain fault → new ≡ old) → MakesCut old new rollback_of → IsMadeFor c old new (outcome_of (refused_for fault))
 refused_for_all c old new refusals.Disk built why same cut = disk_failed c old new (part_cut c old new built cut)
-refused_for_all c old new refusals.Memory built why same cut = no_memory c old new (part_cut c old new built cut)
+refused_for_all c old new refusals.Memory built why same cut = no_memory c old new (part_cut c old new built cut) (inl (same tt))
 refused_for_all c old new (refusals.Header fault) built why same cut =
     nothing_for c old new (replies.Refused (refusals.Header fault)) built (same tt) (refused_with old (refusals.Header fault) why)
 refused_for_all c old new (refusals.JournalPage id size) built why same cut =

@@ -111,10 +111,10 @@ PrintsOutcome g before now (Answered reply) status = PrintsAnswer g before now r
 PrintsOutcome g before now DiskFailed status = Prints g before now (outcome_text DiskFailed) 3 status
 PrintsOutcome g before now NoMemory status = Prints g before now (outcome_text NoMemory) 4 status
 
--- What was printed is the text of an outcome, and the status is its own.
-abbrev pub Ends : {W : Type 0} (g : SinkGhosts W) (before now : W) (words : List (List ℕ)) (told : Option History) (rose : Type 0) (status : ℕ) → Type 0
-Ends g before now words told rose status =
-    (outcome : Outcome) × IsOutcome words told rose outcome × Prints g before now (outcome_text outcome) (outcome_status outcome) status
+-- What was printed is the text of an outcome, what was made goes with it, and the status is its own.
+abbrev pub Ends : {W : Type 0} (g : SinkGhosts W) (before now : W) (words : List (List ℕ)) (told : Option History) (rose : Type 0) (IsMade : Outcome → Type 0) (status : ℕ) → Type 0
+Ends g before now words told rose IsMade status =
+    (outcome : Outcome) × IsOutcome words told rose outcome × IsMade outcome × Prints g before now (outcome_text outcome) (outcome_status outcome) status
 
 -- the status of words that are no command is 1, unless memory ran out or the sink failed
 abbrev pub EndsRefused : {W : Type 0} (g : SinkGhosts W) (before now : W) (status : ℕ) → Type 0
@@ -124,7 +124,7 @@ EndsRefused g before now status = (status ≡ 1) ⊎ ((status ≡ 4) ⊎ ((statu
 abbrev pub EndsOnFailure : {W : Type 0} (g : SinkGhosts W) (before now : W) (status : ℕ) → Type 0
 EndsOnFailure g before now status = (g.faults now ≡ g.faults before) ⊎ ((status ≡ 3) × SinkFailsOnce g before now)
 
--- a right answer to a command over a content is right over what a stop leaves of these operations
+-- a right answer to a command over a content is right over what a crash leaves of these operations
 abbrev pub Stays : Command → Content → List Operation → Type 0
 Stays c content made = (cut : List Operation) → IsCut made cut → (reply : Reply) → IsReplyTo c content reply → IsReplyTo c (after content cut) reply
 

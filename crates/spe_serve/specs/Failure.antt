@@ -14,7 +14,11 @@ use Rattle.spe_serve.specs.declared.failure.Failure.TheVariants.{Disk, Memory}
 abbrev pub faulty_reply : SpaceFault → Result Reply Failure
 faulty_reply spaces.Read = Err Disk
 faulty_reply (spaces.PageOut page pages) = Ok (replies.Corrupt page)
-faulty_reply _ = Err Memory
+faulty_reply (spaces.Busy page word) = Err Memory
+faulty_reply (spaces.Stopped op) = Err Memory
+faulty_reply (spaces.Full pages) = Err Memory
+faulty_reply (spaces.Corrupt page) = Err Memory
+faulty_reply spaces.Memory = Err Memory
 
 -- what a search of a space comes to: damage is an answer
 abbrev pub reply_or_failure : Result Reply TreeFault → Result Reply Failure

@@ -1,5 +1,5 @@
 -- What a command does to the files: the operations of recovery's rule, and then its own.
-use Rattle.std.specs.Prelude.{◌≡◌, ◌≢◌, ℕ, true, List, [], ◌++◌, Option, Result, Ok, Err}
+use Rattle.std.specs.Prelude.{◌≡◌, ◌≢◌, ◌⊎◌, ℕ, true, List, [], ◌++◌, Option, Result, Ok, Err}
 use Rattle.spe_model.specs.declared.recovery.Recovered.{Recovered}
 use Rattle.spe_model.specs.declared.recovery.RecoverFault.{RecoverFault}
 use Rattle.spe_model.specs.Content.{Content}
@@ -11,6 +11,7 @@ use Rattle.spe_recover.specs.Cuts.{WhereAdded}
 use Rattle.spe_recover.specs.Recovered.{rollback_of}
 use Rattle.spe_recover.specs.Told.{IfBothTold}
 use Rattle.spe_words.specs.declared.command.Command.{Command}
+use Rattle.spe_words.specs.Grammar.{AskFor}
 use Rattle.spe_serve.specs.declared.outcome.Outcome.{Outcome}
 use Rattle.spe_serve.specs.declared.outcome.Outcome.TheVariants.{Answered, DiskFailed, NoMemory}
 use Rattle.spe_serve.specs.Answer.{is_built}
@@ -34,7 +35,7 @@ pub record RollsBackFirst (c : Command) (content : Content) (made : List Operati
 abbrev pub AreOperationsOf : Command → Content → (made : List Operation) → Type 0
 AreOperationsOf c content made = Whether (is_built c) (RollsBackFirst c content made) (made ≡ [])
 
--- some operations are what a stop within those of a command leaves
+-- some operations are what a crash within those of a command leaves
 pub record ArePartOf (c : Command) (content : Content) (added : List Operation) : Type 0 where
   pub made : List Operation
   pub of : AreOperationsOf c content made
@@ -62,11 +63,21 @@ OnAnswer (Answered reply) what = what
 OnAnswer DiskFailed what = Unit {0}
 OnAnswer NoMemory what = Unit {0}
 
+-- all were made where there is an answer, and all or none where memory ran out
+abbrev pub MakesFor : Command → (old new : Option History) → Outcome → Type 0
+MakesFor c old new (Answered reply) = MakesAll c old new
+MakesFor c old new DiskFailed = Unit {0}
+MakesFor c old new NoMemory = (new ≡ old) ⊎ MakesAll c old new
+
 -- a part of a command's operations was made, whatever came of it; where there is an answer, all were, and the files are settled then
 pub record IsMadeFor (c : Command) (old new : Option History) (outcome : Outcome) : Type 0 where
   pub part : MakesPart c old new
-  pub whole : OnAnswer outcome (MakesAll c old new)
+  pub whole : MakesFor c old new outcome
   pub settled : is_built c ≡ true → OnAnswer outcome (Settles old new)
+
+-- the same of the command that words ask for, where they ask for one
+abbrev pub IsMadeOf : (words : List (List ℕ)) (old new : Option History) (outcome : Outcome) → Type 0
+IsMadeOf words old new outcome = (c : Command) → AskFor words c → IsMadeFor c old new outcome
 
 -- the same by the status: 3 is a fault, 4 is want of memory, and any other an answer
 pub record IsMadeAt (c : Command) (old new : Option History) (status : ℕ) : Type 0 where

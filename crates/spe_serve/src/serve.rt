@@ -7,7 +7,7 @@ ghost use Rattle.spe_words.specs.declared.command.Command.{Command};
 ghost use Rattle.spe_words.specs.Grammar.{AskFor};
 ghost use Rattle.spe_serve.specs.Answer.{is_built};
 ghost use Rattle.spe_serve.specs.Ending.{AnswersStay, DiskFails, Ends, EndsOnFailure, EndsRefused, Prints, PrintsAnswer, PrintsMade, PrintsOutcome, SinkFailsOnce};
-ghost use Rattle.spe_serve.specs.Made.{IsMadeAt, MakesAll, MakesPart, Settles};
+ghost use Rattle.spe_serve.specs.Made.{IsMadeAt, IsMadeOf, MakesAll, MakesPart, Settles};
 ghost use Rattle.spe_serve.specs.Reply.{AskForNone};
 
 use crate::outcome::{Outcome, carry_out};
@@ -108,7 +108,7 @@ fn put_outcome<W: Sink>(alloc: Global, out: &mut W, outcome: &Outcome) -> u8
 // Carries out some words and prints what there is to print.
 fn run<D: Disk, W: Sink>(alloc: Global, words: &Words, disk: D, out: &mut W) -> (u8, D)
     requires { D.attached disk ≡ false }
-    ensures ends { Ends W.Sink out.old out.new words.now (D.told disk) (DiskFails D.Disk disk result.1) result.0 }
+    ensures ends { Ends W.Sink out.old out.new words.now (D.told disk) (DiskFails D.Disk disk result.1) (IsMadeOf words.now (D.told disk) (D.told result.1)) result.0 }
     ensures untouched { AskForNone words.now → D.told result.1 ≡ D.told disk }
     ensures made { (c : Command) → AskFor words.now c → IsMadeAt c (D.told disk) (D.told result.1) result.0 }
     ensures leaves { LeavesPages (D.told disk) (D.told result.1) }
@@ -137,8 +137,9 @@ pub fn spe<R: Threads + Wait + Sync, D: Disk + Send, C: Scripts, W: Sink, G: Gat
 ) -> (Finished, D)
     requires { D.attached disk ≡ false }
 
-    // The text and the status are those of an outcome of the words: a right answer, a failure or want of memory.
-    ensures ends { Ends W.Sink out.old out.new words (D.told disk) (DiskFails D.Disk disk result.1) result.0.status }
+    // The text, the status and the operations are those of an outcome of the words: a right answer, a failure or want
+    // of memory. So it is where the sink took a part of the text alone.
+    ensures ends { Ends W.Sink out.old out.new words (D.told disk) (DiskFails D.Disk disk result.1) (IsMadeOf words (D.told disk) (D.told result.1)) result.0.status }
     ensures order { result.0.order ≡ [] }
 
     // Status 1 comes exactly where the words are no command, and 3 exactly where the sink failed or the disk did.
@@ -154,9 +155,9 @@ pub fn spe<R: Threads + Wait + Sync, D: Disk + Send, C: Scripts, W: Sink, G: Gat
     ensures made { result.0.status ≢ 3 → result.0.status ≢ 4 → (c : Command) → AskFor words c → MakesAll c (D.told disk) (D.told result.1) }
     ensures settled { result.0.status ≢ 3 → result.0.status ≢ 4 → (c : Command) → AskFor words c → is_built c ≡ true → Settles (D.told disk) (D.told result.1) }
 
-    // Wherever a stop cuts what was done, the recovered pages are as before, and a right answer stays right.
+    // Of what a crash leaves of it the recovered pages are as before, and a right answer stays right.
     ensures leaves { LeavesPages (D.told disk) (D.told result.1) }
-    ensures stops { AnswersStay words (D.told disk) (D.told result.1) }
+    ensures crash { AnswersStay words (D.told disk) (D.told result.1) }
 {
     let (status, disk) = run(alloc, &words, disk, out);
     let order = Commits::new(Vec::new(alloc));

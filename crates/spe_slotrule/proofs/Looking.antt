@@ -50,6 +50,7 @@ module _ {E : Type 0} where
               (λ h. record { pages = h.pages ∙ sym same.pages; faults = subst (λ (n : ℕ). n ≤ x.store.faults) (sym same.faults) h.faults; stop = subst (λ (stop : _). IsStop stop x.store.stop) (sym same.stop) h.stop })
               r.ids;
           sessions = r.sessions;
+          out = r.out;
           failed = omega (arith, sum, failed, all);
         };
         notes = λ a h. h;

@@ -21,7 +21,7 @@ use Rattle.spe_slotrule.specs.May.{Grows, SameOf}
 use Rattle.spe_slotrule.specs.Laid.{owned}
 use Rattle.spe_slotrule.proofs.Pairs.{left_pair, else_pair, kept_pair, not_there, here_pair, joined_other, joined_else}
 use Rattle.spe_slotrule.proofs.Listing.{at_word, each_word, alone_turn}
-use Rattle.spe_slotrule.proofs.Fitting.{grows_same, same_of, id_grows, session_grows, note_grows}
+use Rattle.spe_slotrule.proofs.Fitting.{grows_same, same_of, out_once, id_grows, session_grows, note_grows}
 use Rattle.spe_slotrule.proofs.Granting.{pinned_word, lock_number}
 use Rattle.spe_slotrule.proofs.PinBits.{same_reader, same_has_writer, same_holds, same_alone}
 
@@ -123,6 +123,7 @@ module _ {E : Type 0} where
       sixteen = ap length same.records ∙ r.sixteen;
       ids = λ i small. id_grows s t i _ same.grows same.records (r.ids i small);
       sessions = λ i. session_grows s t i _ same.grows (same.same i) (r.sessions i);
+      out = out_once s t same.same r.out;
       failed = let f = r.failed in let g = same.grows.faults in omega (arith, f, g);
     };
     notes = λ a h. note_grows s t a same.grows h;

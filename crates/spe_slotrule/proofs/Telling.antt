@@ -1,7 +1,7 @@
 -- What the store tells ids and sessions keeps the rule.
 use Rattle.std.proofs.Common.{◌≡◌, ℕ, ◌<◌, ◌≤◌, ◌≢◌, Bool, true, false, eqb, ◌||◌, ◌&&◌, if◌then◌else◌, List, [], ◌∷◌, length, get_or, set, sym, refl, ap, ◌∙◌, subst, ⊎_elim, arith, length-set, get_or-set_same, get_or-set_other, Option, Some, None, eq-eqb, ne_eqb}
 use mathlib.Core.Option.{none}
-use Rattle.std.proofs.lemmas.Bool.{cases_eq}
+use Rattle.std.proofs.lemmas.Bool.{cases_eq, eqb-true, or_cases, or_left, or_right, and_parts, both_ways}
 use Rattle.atomic_table.specs.Table.{step, keeps, Allows}
 use Rattle.spe_slotrule.specs.declared.parts.IdOut.{IdOut}
 use Rattle.spe_slotrule.specs.declared.parts.IdPart.{IdPart}
@@ -12,13 +12,14 @@ use Rattle.spe_slotrule.specs.declared.parts.StorePart.{StorePart}
 use Rattle.spe_slotrule.specs.declared.parts.StoreStop.{StoreStop}
 use Rattle.spe_slotrule.specs.declared.parts.View.{View}
 use Rattle.spe_slotrule.specs.Views.{no_record, store_view}
-use Rattle.spe_slotrule.specs.Known.{out_id, out_session, op_of, stopped_of, is_out, has_out, IsStop, id_failed, session_failed}
+use Rattle.spe_slotrule.specs.Known.{out_id, out_session, op_of, stopped_of, is_given_out, is_out, IdsAreOutOnce, has_out, IsStop, id_failed, session_failed}
 use Rattle.spe_slotrule.specs.Rule.{ReadPinsAreListed, WritePinsAreListed, ReadPinsHaveLocks, WritePinsHaveLocks, LocksAreRight, AreRight, Parts, KeepsRule}
 use Rattle.spe_slotrule.specs.May.{Grows, SameOf, SessionTold, IdTold, IsStill}
 use Rattle.spe_slotrule.specs.Tells.{counted, without_out, with_pages, store_session, store_id, id_session, told, with_faults, told_all, told_faults, recording, giving_out, taking_home, with_out, stopping, stopped_at, with_looks_of, without_looks}
-use Rattle.spe_slotrule.proofs.Pairs.{left_pair, else_pair, joined_else}
+use Rattle.spe_slotrule.specs.Pairs.{is_pair}
+use Rattle.spe_slotrule.proofs.Pairs.{left_pair, else_pair, kept_pair, joined_else}
 use Rattle.spe_slotrule.proofs.Keeping.{Quiet, Shown, sits, still_step, own_parts}
-use Rattle.spe_slotrule.proofs.Fitting.{prefix_all, grows_same, same_of, id_grows, session_grows, note_grows, ids_put, sessions_put, sum_put}
+use Rattle.spe_slotrule.proofs.Fitting.{prefix_all, grows_same, same_of, out_once, id_grows, session_grows, note_grows, ids_put, sessions_put, sum_put}
 use Rattle.spe_slotrule.proofs.Looking.{same_locks}
 use Rattle.spe_slotrule.proofs.Pinning.{SameStore, store_quiet, store_keeps}
 
@@ -35,6 +36,39 @@ came_home : (id session i : ℕ) (out : List IdOut) → is_out i session out ≡
 came_home id session i out was = ⊎_elim
     (λ (own : i ≡ id). subst (λ (z : ℕ). is_out z session (without_out id session out) ≡ false) (sym own) (left_pair out_id out_session id session out))
     (λ (ne : i ≢ id). else_pair out_id out_session id session i session out (λ e. ne (sym e.0)) ∙ (was ∙ ne_eqb i id ne)) (cases_eq i id)
+
+-- who has an id out is one of those who have
+given : (id i : ℕ) (out : List IdOut) → is_out id i out ≡ true → is_given_out id out ≡ true
+given id i [] e = e
+given id i (x ∷ xs) e = ⊎_elim
+    (λ (here : is_pair out_id out_session id i x ≡ true). or_left (eqb id x.id) (is_given_out id xs) (and_parts (eqb id x.id) (eqb i x.session) here).0)
+    (λ (later : is_out id i xs ≡ true). or_right (eqb id x.id) (is_given_out id xs) (given id i xs later))
+    (or_cases (is_pair out_id out_session id i x) (is_out id i xs) e)
+
+-- an id that nobody has out goes out once
+given_once : (id session : ℕ) (out : List IdOut) → is_given_out id out ≡ false → IdsAreOutOnce out → IdsAreOutOnce (record { id = id; session = session } ∷ out)
+given_once id session out free h a i j e f = ⊎_elim
+    (λ (first : Now i ≡ true). ⊎_elim
+    (λ (second : Now j ≡ true). owner i first ∙ sym (owner j second))
+    (λ (later : is_out a j out ≡ true). absurd (taken i j first later))
+    (or_cases (Now j) (is_out a j out) f))
+    (λ (later : is_out a i out ≡ true). ⊎_elim
+    (λ (second : Now j ≡ true). absurd (taken j i second later))
+    (λ (too : is_out a j out ≡ true). h a i j later too)
+    (or_cases (Now j) (is_out a j out) f))
+    (or_cases (Now i) (is_out a i out) e)
+  where
+    Now : ℕ → Bool
+    Now k = is_pair out_id out_session a k record { id = id; session = session }
+
+    owner : (k : ℕ) → Now k ≡ true → k ≡ session
+    owner k t = eqb-true k session (and_parts (eqb a id) (eqb k session) t).1
+
+    taken : (k l : ℕ) → Now k ≡ true → is_out a l out ≡ true → ⊥
+    taken k l t old = both_ways (is_given_out id out) free (subst (λ (z : ℕ). is_given_out z out ≡ true) (eqb-true a id (and_parts (eqb a id) (eqb k session) t).0) (given a l out old))
+
+left_once : (id session : ℕ) (out : List IdOut) → IdsAreOutOnce out → IdsAreOutOnce (without_out id session out)
+left_once id session out h a i j e f = h a i j (kept_pair out_id out_session id session a i out e) (kept_pair out_id out_session id session a j out f)
 
 module _ {E : Type 0} where
   -- a load of the number of commits, by which the view v becomes w
@@ -73,6 +107,7 @@ module _ {E : Type 0} where
           sixteen = ap length h.records ∙ r.sixteen;
           ids = λ i small. id_grows s t i _ h.grows h.records (r.ids i small);
           sessions = sessions_put s t x.sessions p.number p q at (λ j o ne. session_grows s t j o h.grows (h.others j ne)) h.own r.sessions;
+          out = h.out r.out;
           failed = omega (arith, sum, all, less);
         };
         notes = λ a. note_grows s t a h.grows;
@@ -94,6 +129,7 @@ module _ {E : Type 0} where
           sixteen = h.sixteen ∙ r.sixteen;
           ids = ids_put s t x.ids p.id p q at h.others (h.own r.sixteen) r.ids;
           sessions = λ i. session_grows s t i _ h.grows (h.sessions i) (r.sessions i);
+          out = out_once s t h.sessions r.out;
           failed = omega (arith, sum, all, less);
         };
         notes = λ a. note_grows s t a h.grows;
@@ -133,6 +169,7 @@ module _ {E : Type 0} where
           stopped = h.stopped;
           out = h.out;
         };
+        out = λ h. h;
         failed = omega (arith, more);
         reads = refl;
         writes = refl;
@@ -171,8 +208,8 @@ module _ {E : Type 0} where
         sixteen = length-set s.records p.id pages;
       }
 
-  pub may_give_out : (other : ℕ) (s : StorePart E) (p : SessionPart E) → p.out ≡ None → SessionTold s (giving_out other p.number s) p (with_out (Some other) p)
-  may_give_out other s p none_yet =
+  pub may_give_out : (other : ℕ) (s : StorePart E) (p : SessionPart E) → is_given_out other s.out ≡ false → p.out ≡ None → SessionTold s (giving_out other p.number s) p (with_out (Some other) p)
+  may_give_out other s p free none_yet =
       let t = giving_out other p.number s in record {
         number = refl;
         grows = grows_same s t refl refl refl;
@@ -183,6 +220,7 @@ module _ {E : Type 0} where
           stopped = h.stopped;
           out = λ i. own_out other p.number i s.out (h.out i ∙ ap (has_out i) none_yet);
         };
+        out = given_once other p.number s.out free;
         failed = omega arith;
         reads = refl;
         writes = refl;
@@ -200,6 +238,7 @@ module _ {E : Type 0} where
       stopped = h.stopped;
       out = λ i. h.out i ∙ ap (has_out i) is;
     };
+    out = λ h. h;
     failed = omega arith;
     reads = refl;
     writes = refl;
@@ -216,6 +255,7 @@ module _ {E : Type 0} where
           stopped = h.stopped;
           out = λ i. came_home other p.number i s.out (h.out i ∙ ap (has_out i) is);
         };
+        out = left_once other p.number s.out;
         failed = omega arith;
         reads = refl;
         writes = refl;
@@ -256,6 +296,7 @@ module _ {E : Type 0} where
           stopped = sym (ap (λ b. if b then Some e else None) (eq-eqb e.session p.number by));
           out = h.out;
         };
+        out = λ h. h;
         failed = omega arith;
         reads = refl;
         writes = refl;
@@ -281,6 +322,7 @@ module _ {E : Type 0} where
           ids = ids_put x.store x.store x.ids a.id a b is_of.id (λ _ _ _ h. h) (λ h. record { pages = h.pages; faults = h.faults; stop = h.stop }) r.ids;
           sessions = sessions_put x.store x.store x.sessions p.number p q is_of.session (λ _ _ _ h. h)
               (λ h. record { heard = record { begins = h.heard.begins; least = h.heard.least; most = h.heard.most; counted = h.heard.counted; same_stop = h.heard.same_stop }; own = h.own; stopped = h.stopped; out = h.out }) r.sessions;
+          out = r.out;
           failed = omega (arith, ids, sessions, all);
         };
         notes = λ _ h. h;

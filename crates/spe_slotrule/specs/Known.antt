@@ -1,5 +1,5 @@
 -- What ids, sessions and notes have of what the store has.
-use Rattle.std.specs.Prelude.{◌≡◌, ℕ, ◌+◌, ◌≤◌, Bool, false, List, [], ◌∷◌, ◌==◌, ◌||◌, if◌then◌else◌, length, slice_index_or, Option, Some, None}
+use Rattle.std.specs.Prelude.{◌≡◌, ℕ, ◌+◌, ◌≤◌, Bool, true, false, List, [], ◌∷◌, ◌==◌, ◌||◌, if◌then◌else◌, length, slice_index_or, Option, Some, None}
 use Rattle.std.specs.List.{filter, sum_by}
 use mathlib.Core.List.{IsPrefix}
 use Rattle.spe_slotrule.specs.declared.parts.CommitEntry.{CommitEntry}
@@ -27,6 +27,10 @@ is_given_out id (x ∷ xs) = id == x.id || is_given_out id xs
 -- the id is out with the session
 abbrev pub is_out : ℕ → ℕ → List IdOut → Bool
 is_out id session out = has_pair out_id out_session id session out
+
+-- an id is out with one session at most
+abbrev pub IdsAreOutOnce : List IdOut → Type 0
+IdsAreOutOnce out = (id i j : ℕ) → is_out id i out ≡ true → is_out id j out ≡ true → i ≡ j
 
 abbrev pub has_out : ℕ → Option ℕ → Bool
 has_out id None = false

@@ -13,7 +13,7 @@ use Rattle.spe_slotrule.specs.declared.parts.View.{View}
 use Rattle.spe_slotrule.specs.Word.{has_reader, has_writer, holds_lock, has_read_pin, has_write_pin, IsAlone}
 use Rattle.spe_slotrule.specs.Views.{id_key, session_key, only_key, reads_of, writes_of, id_of, store_of, session_of, maker_of, note_of}
 use Rattle.spe_slotrule.specs.Pairs.{has_pair}
-use Rattle.spe_slotrule.specs.Known.{id_at, session_at, IdFits, SessionFits, NoteFits, FailedAreFaults}
+use Rattle.spe_slotrule.specs.Known.{id_at, session_at, IdsAreOutOnce, IdFits, SessionFits, NoteFits, FailedAreFaults}
 use Rattle.spe_slotrule.specs.Stands.{Stands}
 
 abbrev pub is_listed : ℕ → List ℕ → Bool
@@ -129,6 +129,7 @@ module _ {E : Type 0} where
     pub sixteen : length p.store.records ≡ 16
     pub ids : IdsFit p.store p.ids
     pub sessions : SessionsFit p.store p.sessions
+    pub out : IdsAreOutOnce p.store.out
     pub failed : FailedAreFaults p.store p.ids p.sessions
 
   -- the rule of a table with n lock words

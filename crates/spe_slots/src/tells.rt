@@ -1,7 +1,7 @@
 // What the store tells sessions. Each call picks what its step makes of the two parts.
 ghost use Rattle.std.specs.Prelude.{◌≡◌, ◌≤◌, ◌<◌, ℕ, false, None, Some};
 ghost use Rattle.spe_slotrule.specs.Views.{store_view};
-ghost use Rattle.spe_slotrule.specs.Known.{SessionFits, is_given_out};
+ghost use Rattle.spe_slotrule.specs.Known.{SessionFits, is_given_out, IdsAreOutOnce};
 ghost use Rattle.spe_slotrule.specs.Tells.{counted, with_faults, told_all, giving_out, taking_home, with_out, stopping, stopped_at};
 ghost use Rattle.spe_slots.specs.Told.{stopped_entry};
 
@@ -38,6 +38,7 @@ impl<E> Slots<E> {
         ensures table { (store.new.table ≡ store.old.table) × (session.new.table ≡ session.old.table) }
         ensures store { store.new.part ≡ giving_out id session.old.part.number store.old.part }
         ensures session { session.new.part ≡ with_out (Some id) session.old.part }
+        ensures once { IdsAreOutOnce store.new.part.out }
     {
         self.tell_session::<Brand, _>(store, &mut session.seat, id);
     }
@@ -48,6 +49,7 @@ impl<E> Slots<E> {
         ensures table { (store.new.table ≡ store.old.table) × (session.new.table ≡ session.old.table) }
         ensures store { store.new.part ≡ taking_home session.old.part.out session.old.part.number store.old.part }
         ensures session { session.new.part ≡ with_out None session.old.part }
+        ensures once { IdsAreOutOnce store.new.part.out }
     {
         self.tell_session::<Brand, _>(store, &mut session.seat, ());
     }

@@ -1,11 +1,10 @@
 -- A transaction commits.
-use Rattle.std.proofs.Common.{◌≡◌, ℕ, suc, ◌+◌, ◌-◌, ◌*◌, ◌^◌, ◌<◌, ◌≤◌, List, [], ◌∷◌, ◌++◌, length, take, All, refl, sym, ap, ◌∙◌, subst, arith, Bool, true, false, Option, Some, None, Ok, Err, ⊎_elim, inl, inr, length-append}
-use Rattle.std.specs.Prelude.{◌⊎◌, is_some, nat_lt, slice_get, slice_set, unwrap_or, ◌==◌, if◌then◌else◌}
+use Rattle.std.proofs.Common.{◌≡◌, ℕ, suc, ◌+◌, ◌-◌, ◌^◌, ◌<◌, ◌≤◌, List, [], ◌∷◌, ◌++◌, length, take, All, refl, sym, ap, ◌∙◌, subst, arith, Bool, true, false, Option, Some, None, Ok, Err, ⊎_elim, inl, inr, length-append}
+use Rattle.std.specs.Prelude.{◌⊎◌, nat_lt, slice_get, slice_set, unwrap_or, ◌==◌, if◌then◌else◌}
 use Rattle.std.specs.Option.{option_map}
 use Rattle.std.proofs.lemmas.Bool.{cases_Bool, cases_eq, eq-eqb, ne_eqb}
 use Rattle.std.proofs.lemmas.List.Elements.{All-head, All-nil, All-push, All-tail, All-weaker}
 use Rattle.spe_model.specs.declared.commit.Commit as model
-use Rattle.spe_model.specs.Content.{Content}
 use Rattle.spe_model.specs.Header.{fields, is_size_valid}
 use Rattle.spe_model.specs.Justified.{Justified}
 use Rattle.spe_model.specs.Paging.{Given, PageMap, lay}
@@ -18,13 +17,12 @@ use Rattle.spe_crash.proofs.NumbersLemmas.{pages_to-length}
 use Rattle.spe_crash.proofs.PagesLemmas.{opened as opened_pages, some_pages}
 use Rattle.spe_transactions.specs.Commits.{Commit, laid_by}
 use Rattle.spe_transactions.specs.Growth.{CanCommit}
-use Rattle.spe_transactions.specs.Kept.{HasStopped, StopsKept, WorkKept, ended_by, grown}
+use Rattle.spe_transactions.specs.Kept.{WorkKept}
 use Rattle.spe_transactions.specs.Pages.{MayCommit, laid_pages, named_count, page_at}
-use Rattle.spe_transactions.specs.Steps.{EndsBare}
 use Rattle.spe_transactions.specs.Work.{has_page, without_id}
 use Rattle.spe_transactions.proofs.CommitsLemmas.{after_commit}
-use Rattle.spe_transactions.proofs.CutWorkLemmas.{bare_ends, commit_leaves}
-use Rattle.spe_transactions.proofs.GrowthLemmas.{bare_end_kept, end_kept, end_stop_kept, saying_changes}
+use Rattle.spe_transactions.proofs.CutWorkLemmas.{commit_leaves}
+use Rattle.spe_transactions.proofs.GrowthLemmas.{bare_end_kept, end_kept}
 use Rattle.spe_transactions.proofs.WorkLemmas.{count_named}
 use Rattle.spe_store.specs.declared.log.Log.{Log}
 use Rattle.spe_store.specs.declared.stop.Stop.{Stop}
@@ -32,15 +30,15 @@ use Rattle.spe_store.specs.declared.work.Work.{Work}
 use Rattle.spe_store.specs.Call.{CutsIf, LeavesSeen, MayEnd}
 use Rattle.spe_store.specs.Pass.{OthersStay}
 use Rattle.spe_store.specs.Desk.{Breaks, Counts, Desk, Does, TriesIf}
-use Rattle.spe_store.specs.Event.{Event, broken_in, entries_in, journalled_in, lives_in, open_in, seen_in, written_in}
+use Rattle.spe_store.specs.Event.{Event, entries_in, journalled_in, lives_in, open_in, seen_in, written_in}
 use Rattle.spe_store.specs.Event.Event.{Broken, Committed}
 use Rattle.spe_store.specs.Opened.{Opened}
-use Rattle.spe_store.specs.Served.{AreKept, AreLeft, Entry, Says, asked_of, commit_of, commits_of, pages_of, rows_from}
-use Rattle.spe_store.specs.Store.{AreListed, AreSeen, IfTold, IsOrder, IsServing, IsStored, NeverFall, Order, Store, due_count, pages_in}
+use Rattle.spe_store.specs.Served.{AreLeft, Entry, Says, asked_of, commit_of, commits_of, pages_of, rows_from}
+use Rattle.spe_store.specs.Store.{AreListed, AreSeen, IfTold, IsOrder, IsServing, IsStored, NeverFall, Order, Store, pages_in}
 use Rattle.spe_store.specs.Work.{HasEnded}
 use Rattle.spe_store.proofs.EndLemmas.{bare_ends_now, bare_journal, committing, end_done, ended_ends, ended_size}
-use Rattle.spe_store.proofs.HeldLemmas.{added, broke_held, due_less, due_some, goes, listed, order_later}
-use Rattle.spe_store.proofs.ServedLemmas.{commits_long, commits_more, says_last, says_now, work_more}
+use Rattle.spe_store.proofs.HeldLemmas.{added, broke_held, due_less, due_some, listed, order_later}
+use Rattle.spe_store.proofs.ServedLemmas.{commits_more, says_last, work_more}
 
 -- how many operations were made
 counted_ops : (told : Option History) (stopped : Option ℕ) (ops : ℕ) (h : History) → Counts told stopped ops → told ≡ Some h → stopped ≡ None → ops ≡ length h.trace

@@ -1,5 +1,5 @@
 -- A transaction ends: its journal is cut, where it has bytes.
-use Rattle.std.proofs.Common.{◌≡◌, ℕ, ◌<◌, ◌≤◌, List, [], ◌∷◌, length, refl, sym, ap, ◌∙◌, subst, arith, Bool, true, false, Option, Some, None, Ok, Err, inl}
+use Rattle.std.proofs.Common.{◌≡◌, ℕ, ◌<◌, ◌≤◌, List, [], ◌∷◌, length, refl, sym, ap, ◌∙◌, subst, arith, Bool, true, false, Option, Some, None, Ok, Err}
 use Rattle.std.specs.Prelude.{◌⊎◌, ◌==◌, is_some, nat_lt, slice_get, slice_set, if◌then◌else◌}
 use Rattle.std.specs.Option.{option_map}
 use Rattle.std.proofs.lemmas.Bool.{eq-eqb, ne_eqb}
@@ -14,7 +14,7 @@ use Rattle.spe_transactions.specs.Pages.{named_count}
 use Rattle.spe_transactions.specs.Work.{Works, without_id}
 use Rattle.spe_transactions.proofs.CutWorkLemmas.{bare_ends, drop_works}
 use Rattle.spe_transactions.proofs.MovedLemmas.{IsMoved, moved, moved_size}
-use Rattle.spe_transactions.proofs.WorksLemmas.{dropped_other, dropped_own, still_gives}
+use Rattle.spe_transactions.proofs.WorksLemmas.{dropped_other, dropped_own}
 use Rattle.spe_store.specs.declared.stop.Stop.{Stop}
 use Rattle.spe_store.specs.declared.work.Work.{Work}
 use Rattle.spe_store.specs.Desk.{Desk, Does, TriesIf}

@@ -1,5 +1,5 @@
 -- What holds of a store after an operation was tried.
-use Rattle.std.proofs.Common.{◌≡◌, ◌≢◌, ℕ, zero, suc, ◌+◌, ◌-◌, ◌^◌, ◌<◌, ◌≤◌, List, [], ◌∷◌, length, All, min, refl, sym, ap, ◌∙◌, subst, arith, Bool, true, false, Option, Some, None, Err, ⊎_elim, inl, inr}
+use Rattle.std.proofs.Common.{◌≡◌, ◌≢◌, ℕ, zero, suc, ◌-◌, ◌^◌, ◌<◌, ◌≤◌, List, [], ◌∷◌, length, All, refl, sym, ap, ◌∙◌, subst, arith, Bool, true, false, Option, Some, None, Err, ⊎_elim, inl, inr}
 use Rattle.std.specs.Prelude.{◌⊎◌, slice_get, slice_set, if◌then◌else◌}
 use Rattle.std.specs.Option.{option_map}
 use Rattle.std.proofs.lemmas.Bool.{cases_Bool, cases_eq}
@@ -8,7 +8,7 @@ use Rattle.spe_model.specs.declared.commit.Commit as model
 use Rattle.spe_model.specs.Content.{Content}
 use Rattle.spe_model.specs.Faults.{Rose}
 use Rattle.spe_model.specs.Paging.{Given}
-use Rattle.spe_model.specs.Trace.{History, IsCut, IsTorn, Operation, present}
+use Rattle.spe_model.specs.Trace.{History, IsTorn, Operation, present}
 use Rattle.spe_disk.specs.Told.{Adds}
 use Rattle.spe_transactions.specs.Kept.{WorkKept, grown}
 use Rattle.spe_transactions.specs.Made.{Makes}

@@ -1,6 +1,6 @@
 -- What a stop leaves of a store, and what is so until then.
-use Rattle.std.proofs.Common.{◌≡◌, ℕ, List, [], ◌∷◌, ◌++◌, length, refl, sym, ap, ◌∙◌, Option, Some, None, ⊎_elim, inl, inr}
-use Rattle.spe_model.specs.Trace.{History, IsCut, Operation}
+use Rattle.std.proofs.Common.{◌≡◌, ℕ, List, [], ◌∷◌, ◌++◌, Option, Some, None, ⊎_elim, inl, inr}
+use Rattle.spe_model.specs.Trace.{History}
 use Rattle.spe_transactions.proofs.GrowthLemmas.{cuts_meet}
 use Rattle.spe_store.specs.declared.work.Work.{Work}
 use Rattle.spe_store.specs.Call.{CutsAreLeft, CutsAreServed, IsNow, KeepsCuts, KeepsPages}

@@ -1,5 +1,5 @@
 -- A store begins: the absent journals are made.
-use Rattle.std.proofs.Common.{◌≡◌, ◌≢◌, ℕ, suc, zero, ◌+◌, ◌<◌, ◌≤◌, List, [], ◌∷◌, ◌++◌, length, map, filter, All, refl, sym, ap, ◌∙◌, subst, arith, Bool, true, false, Option, Some, None, Ok, Err, ⊎_elim, inl}
+use Rattle.std.proofs.Common.{◌≡◌, ◌≢◌, ℕ, suc, zero, ◌+◌, ◌<◌, ◌≤◌, List, [], ◌∷◌, ◌++◌, length, filter, All, refl, sym, ap, ◌∙◌, subst, arith, Bool, true, false, Option, Some, None, Ok, Err, ⊎_elim}
 use Rattle.std.specs.Prelude.{is_none, nat_lt, slice_get}
 use Rattle.std.specs.List.{range_with_len}
 use Rattle.std.specs.Option.{option_map}
@@ -8,12 +8,11 @@ use Rattle.std.proofs.lemmas.List.{append-nil, append_assoc, length-append, leng
 use Rattle.std.proofs.lemmas.List.Elements.{All-cons, All-head, All-nil, All-tail}
 use Rattle.spe_model.specs.declared.commit.Commit as model
 use Rattle.spe_model.specs.declared.file.FileNo.TheVariants.{Journal}
-use Rattle.spe_model.specs.declared.recovery.Recovered.{Recovered}
 use Rattle.spe_model.specs.Content.{Content, file_of}
-use Rattle.spe_model.specs.Recovery.{file_page_size, journal_of}
+use Rattle.spe_model.specs.Recovery.{journal_of}
 use Rattle.spe_model.specs.Rollback.{cut_of}
-use Rattle.spe_model.specs.Trace.{History, Operation, made_by, present}
-use Rattle.spe_disk.specs.Told.{Adds, MakesJournals, absent_among, absent_below, absent_journals, makings}
+use Rattle.spe_model.specs.Trace.{History, Operation, present}
+use Rattle.spe_disk.specs.Told.{MakesJournals, absent_among, absent_below, absent_journals, makings}
 use Rattle.spe_disk.specs.declared.disk.Failed.{Failed}
 use Rattle.spe_transactions.specs.Kept.{WorkKept, grown}
 use Rattle.spe_transactions.specs.Work.{no_works}
@@ -26,8 +25,8 @@ use Rattle.spe_store.specs.Call.{CutsAreServed, HasOpened}
 use Rattle.spe_store.specs.Desk.{Counts, Desk}
 use Rattle.spe_store.specs.Opened.{Opened}
 use Rattle.spe_store.specs.Saved.{saved_at}
-use Rattle.spe_store.specs.Served.{Says, commits_of}
-use Rattle.spe_store.specs.Store.{AreListed, IfTold, IsOf, IsServing, IsStored, NeverFall, Order, due_count}
+use Rattle.spe_store.specs.Served.{Says}
+use Rattle.spe_store.specs.Store.{AreListed, IfTold, IsServing, IsStored, NeverFall, Order, due_count}
 use Rattle.spe_store.specs.Work.{AreIdle, IsIdle}
 use Rattle.spe_store.proofs.HeldLemmas.{added}
 use Rattle.spe_store.proofs.LeftLemmas.{each_cut}

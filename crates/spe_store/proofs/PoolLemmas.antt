@@ -1,26 +1,26 @@
 -- A transaction begins and finishes, and its id comes back.
-use Rattle.std.proofs.Common.{◌≡◌, ◌≢◌, ℕ, zero, suc, ◌+◌, ◌<◌, ◌≤◌, List, [], ◌∷◌, length, All, refl, sym, ap, ◌∙◌, subst, arith, Bool, true, false, Option, Some, None, ⊎_elim}
+use Rattle.std.proofs.Common.{◌≡◌, ℕ, ◌<◌, ◌≤◌, List, [], ◌∷◌, length, All, refl, sym, ap, ◌∙◌, subst, arith, Bool, true, false, Option, Some, None, ⊎_elim}
 use Rattle.std.specs.Prelude.{◌==◌, ◌&&◌, not, is_some, nat_lt, slice_get, slice_set, if◌then◌else◌}
 use Rattle.std.specs.Option.{option_map}
-use Rattle.std.proofs.lemmas.Bool.{cases_Bool, cases_eq, eq-eqb, ne_eqb}
+use Rattle.std.proofs.lemmas.Bool.{cases_Bool, eq-eqb, ne_eqb}
 use Rattle.std.proofs.lemmas.List.Elements.{All-nil}
-use Rattle.spe_model.specs.Paging.{Given, PageMap}
-use Rattle.spe_model.specs.Recovery.{journal_of}
-use Rattle.spe_model.specs.Trace.{History, present}
+use Rattle.spe_model.specs.Paging.{Given}
+use Rattle.spe_model.specs.Trace.{present}
 use Rattle.spe_transactions.specs.Pages.{named_count, page_at}
-use Rattle.spe_transactions.specs.Work.{without_id}
+use Rattle.spe_transactions.specs.Work.{Works, no_works, without_id}
 use Rattle.spe_transactions.proofs.CutWorkLemmas.{bare_ends}
 use Rattle.spe_transactions.proofs.WorksLemmas.{dropped_other, dropped_own}
 use Rattle.spe_store.specs.declared.work.Work.{Work}
-use Rattle.spe_store.specs.Event.{Event, entries_in, journalled_in, lives_in, open_in, out_in, seen_in, written_in}
+use Rattle.spe_store.specs.Event.{Event, journalled_in, lives_in, open_in, out_in, seen_in, written_in}
+use Rattle.spe_store.specs.Call.{is_free}
 use Rattle.spe_store.specs.Event.Event.{Begun, Finished, Returned}
 use Rattle.spe_store.specs.Opened.{Opened}
 use Rattle.spe_store.specs.Pass.{AreAlike}
 use Rattle.spe_store.specs.Saved.{saved_at}
-use Rattle.spe_store.specs.Store.{AreListed, AreSeen, IsEnd, IsListed, IsOrder, IsServing, IsStored, NeverFall, Order, Store, due_count, pages_in}
+use Rattle.spe_store.specs.Store.{AreSeen, IsEnd, IsListed, IsStored, NeverFall, Order, Store, due_count, pages_in}
 use Rattle.spe_store.specs.Work.{HasBegun, HasEnded}
 use Rattle.spe_store.proofs.EndLemmas.{IsEnding, bare_at, bare_ends_now, ended_lists}
-use Rattle.spe_store.proofs.HeldLemmas.{due_fewer, due_same, goes, listed, quiet_held, replaced}
+use Rattle.spe_store.proofs.HeldLemmas.{due_fewer, due_same, listed, quiet_held, replaced}
 use Rattle.spe_store.proofs.ListLemmas.{set_length}
 
 pub none_from : (o : Option ℕ) → is_some o ≡ false → o ≡ None
@@ -144,3 +144,41 @@ module _ (opened : Opened) (s : Store) (works : List Work) (order : Order) (i : 
         ends = replaced (IsEnd (present h)) works id x (omega (arith, i.all)) (λ j y other there. v.ends j y there)
             (let was = v.ends id w found in record { at = has.end ∙ sym shut ∙ was.at; nonce = λ some. absurd (let zero_end = has.end in omega arith) });
       })))
+
+-- a transaction that has begun is what its pass lists
+without_all : (f g : Works) (id : ℕ) → without_id id f id ≡ without_id id g id
+without_all f g id =
+    ap {B = ℕ → Option (List ℕ)} (λ (b : Bool) (q : ℕ). if b then no_works 0 q else f id q) (eq-eqb id id refl) ∙ sym (ap {B = ℕ → Option (List ℕ)} (λ (b : Bool) (q : ℕ). if b then no_works 0 q else g id q) (eq-eqb id id refl))
+
+pub begun_alike : (events : List Event) (id : ℕ) → open_in events id ≡ false → AreAlike (Begun id ∷ events) (Begun id ∷ []) id
+begun_alike events id shut = record {
+  begun = shut;
+  lives = ap (λ (b : Bool). if b then true else lives_in events id) (eq-eqb id id refl) ∙ sym (ap (λ (b : Bool). if b then true else false) (eq-eqb id id refl));
+  journalled = without_all (journalled_in events) no_works id;
+  written = without_all (written_in events) no_works id;
+  seen =
+      ap {B = ℕ → List (List ℕ)} (λ (b : Bool) (q : ℕ). if b then seen_in [] 0 q else seen_in events id q) (eq-eqb id id refl)
+      ∙ sym (ap {B = ℕ → List (List ℕ)} (λ (b : Bool) (q : ℕ). if b then seen_in [] 0 q else seen_in [] id q) (eq-eqb id id refl));
+}
+
+-- an id that is free has no journal that is open
+pub free_shut : (events : List Event) (id : ℕ) → is_free events id ≡ true → open_in events id ≡ false
+free_shut events id free = by_test (out_in events id) (open_in events id) free
+  where
+    by_test : (a b : Bool) → (not a && not b) ≡ true → b ≡ false
+    by_test true b e = absurd cc
+    by_test false true e = absurd cc
+    by_test false false e = refl
+
+-- there is room for more commits, as before at least
+pub roomier_held : (opened : Opened) (s : Store) (works : List Work) (order list : Order) → IsStored opened s works order → list.rows ≡ order.rows → order.room ≤ list.room → IsStored opened s works list
+roomier_held opened s works order list i rows room = record {
+  low = i.low;
+  high = i.high;
+  found = i.found;
+  all = i.all;
+  of = i.of;
+  ordered = record { rows = rows ∙ i.ordered.rows; ended = subst (All (λ c. c.ops ≤ s.desk.ops)) (sym rows) i.ordered.ended; sorted = subst NeverFall (sym rows) i.ordered.sorted };
+  room = let less = i.room in omega (arith, less, room);
+  held = i.held;
+}

@@ -5,7 +5,7 @@ use Rattle.std.specs.Option.{option_map}
 use Rattle.std.proofs.lemmas.Bool.{cases_eq, eq-eqb, ne_eqb}
 use Rattle.spe_model.specs.declared.file.FileNo.TheVariants.{Database}
 use Rattle.spe_model.specs.Big.{u32_at}
-use Rattle.spe_model.specs.Content.{Content, bytes_of}
+use Rattle.spe_model.specs.Content.{Content}
 use Rattle.spe_model.specs.Recovery.{journal_of}
 use Rattle.spe_model.specs.Rollback.{write_of}
 use Rattle.spe_model.specs.Trace.{History, Operation, made_by, present}
@@ -13,7 +13,7 @@ use Rattle.spe_model.specs.Trace.Operation.{Write}
 use Rattle.spe_crash.proofs.FileLemmas.{database_leaves}
 use Rattle.spe_transactions.specs.Kept.{WorkKept}
 use Rattle.spe_transactions.specs.Made.{Makes}
-use Rattle.spe_transactions.specs.Pages.{named_count, page_at}
+use Rattle.spe_transactions.specs.Pages.{named_count}
 use Rattle.spe_transactions.specs.Work.{has_page, with_page, without_page}
 use Rattle.spe_transactions.proofs.PageLemmas.{page_there, size_is}
 use Rattle.spe_transactions.proofs.WorkLemmas.{front_of}
@@ -36,7 +36,7 @@ use Rattle.spe_store.specs.Work.{HasUndone, HasWritten}
 use Rattle.spe_store.proofs.HeldLemmas.{added, done_held, due_same, order_on, part_kept, refused_held, replaced, step_on}
 use Rattle.spe_store.proofs.ListLemmas.{set_length}
 use Rattle.spe_store.proofs.OpenLemmas.{now_is}
-use Rattle.spe_store.proofs.SavedLemmas.{marked_other, marked_page, marked_saved}
+use Rattle.spe_store.proofs.SavedLemmas.{saved_some}
 
 write_leaves : (at : ℕ) (bytes : List ℕ) (content : Content) (i : ℕ) → journal_of (made_by (Write Database at bytes) content) i ≡ journal_of content i
 write_leaves at [] content i = refl
@@ -130,22 +130,21 @@ module _ (opened : Opened) (s : Store) (works : List Work) (order : Order) (i : 
         })
         (let was = lists id w found in
         record {
-          saved = λ p. ap (saved_at p) has.saved ∙ marked_saved page p true w.saved ∙ was.saved p;
+          saved = λ p. has.saved.saved p ∙ was.saved p;
           changed = λ p own.
               ⊎_elim
               (λ (here : p ≡ page).
               ap (λ (q : ℕ). changed_at q x.saved) here
-              ∙ ap (changed_at page) has.saved
-              ∙ marked_page page true w.saved (ap is_some (was.saved page) ∙ ap (λ (q : ℕ). is_some (journalled_in s.events id q)) (sym here) ∙ own)
+              ∙ has.saved.here (sym (saved_some page w.saved) ∙ ap is_some (was.saved page) ∙ ap (λ (q : ℕ). is_some (journalled_in s.events id q)) (sym here) ∙ own)
               ∙ sym (ap (λ (q : ℕ). is_some (with_page id page bytes (written_in s.events) id q)) here ∙ ap is_some (with_at id page bytes (written_in s.events))))
               (λ (other : p ≢ page).
-              ap (changed_at p) has.saved ∙ marked_other page p true w.saved other ∙ was.changed p own ∙ ap is_some (sym (with_other_page id page bytes (written_in s.events) id p other)))
+              has.saved.other p other ∙ was.changed p own ∙ ap is_some (sym (with_other_page id page bytes (written_in s.events) id p other)))
               (cases_eq p page);
           own = own_is x has was.own;
           begun = ap (nat_lt 0) has.end ∙ was.begun;
           due = has.due ∙ was.due;
           out = has.out ∙ was.out;
-          sized = λ p b at. was.sized p b (sym (marked_saved page p true w.saved) ∙ ap (saved_at p) (sym has.saved) ∙ at);
+          sized = λ p b at. was.sized p b (sym (has.saved.saved p) ∙ at);
         })
 
     pub write_done : Does s.desk desk op → (x : Work) → HasWritten page bytes w x → (at : ℕ) → at ≡ id → (now : List Event) → now ≡ Written id page bytes ∷ s.events
@@ -195,22 +194,21 @@ module _ (opened : Opened) (s : Store) (works : List Work) (order : Order) (i : 
         })
         (let was = lists id w found in
         record {
-          saved = λ p. ap (saved_at p) has.saved ∙ marked_saved page p false w.saved ∙ was.saved p;
+          saved = λ p. has.saved.saved p ∙ was.saved p;
           changed = λ p own.
               ⊎_elim
               (λ (here : p ≡ page).
               ap (λ (q : ℕ). changed_at q x.saved) here
-              ∙ ap (changed_at page) has.saved
-              ∙ marked_page page false w.saved (ap is_some saved)
+              ∙ has.saved.here (sym (saved_some page w.saved) ∙ ap is_some saved)
               ∙ sym (ap (λ (q : ℕ). is_some (without_page id page (written_in s.events) id q)) here ∙ ap is_some (without_at id page (written_in s.events))))
               (λ (other : p ≢ page).
-              ap (changed_at p) has.saved ∙ marked_other page p false w.saved other ∙ was.changed p own ∙ ap is_some (sym (without_other_page id page (written_in s.events) id p other)))
+              has.saved.other p other ∙ was.changed p own ∙ ap is_some (sym (without_other_page id page (written_in s.events) id p other)))
               (cases_eq p page);
           own = own_left x has was.own;
           begun = ap (nat_lt 0) has.end ∙ was.begun;
           due = has.due ∙ was.due;
           out = has.out ∙ was.out;
-          sized = λ p b at. was.sized p b (sym (marked_saved page p false w.saved) ∙ ap (saved_at p) (sym has.saved) ∙ at);
+          sized = λ p b at. was.sized p b (sym (has.saved.saved p) ∙ at);
         })
 
     pub undo_done : Does s.desk desk op → (x : Work) → HasUndone page w x → (at : ℕ) → at ≡ id → (now : List Event) → now ≡ Undone id page ∷ s.events

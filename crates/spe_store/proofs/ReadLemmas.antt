@@ -1,7 +1,7 @@
 -- A transaction reads a page.
-use Rattle.std.proofs.Common.{◌≡◌, ◌≢◌, ℕ, ◌<◌, ◌≤◌, List, [], ◌∷◌, length, All, refl, sym, ap, ◌∙◌, subst, arith, Bool, true, false, Option, Some, None, ⊎_elim}
-use Rattle.std.specs.Prelude.{◌==◌, ◌&&◌, ◌*◌, is_some, slice_get, unwrap_or, if◌then◌else◌}
-use Rattle.std.proofs.lemmas.Bool.{cases_Bool, cases_eq, cases_lt, eq-eqb, ne_eqb}
+use Rattle.std.proofs.Common.{◌≡◌, ◌≢◌, ℕ, ◌<◌, ◌≤◌, List, ◌∷◌, length, All, refl, sym, ap, ◌∙◌, subst, arith, Bool, true, false, Option, Some, None, ⊎_elim}
+use Rattle.std.specs.Prelude.{◌==◌, ◌&&◌, ◌*◌, is_some, slice_get, unwrap_or}
+use Rattle.std.proofs.lemmas.Bool.{cases_Bool, cases_eq, cases_lt, ne_eqb}
 use Rattle.std.proofs.lemmas.List.Elements.{All-cons}
 use Rattle.spe_model.specs.declared.file.FileNo.TheVariants.{Database}
 use Rattle.spe_model.specs.Content.{bytes_of}
@@ -11,11 +11,11 @@ use Rattle.spe_model.specs.Trace.{History, present}
 use Rattle.spe_transactions.specs.Pages.{page_at}
 use Rattle.spe_transactions.specs.Work.{has_page}
 use Rattle.spe_transactions.proofs.PageLemmas.{page_there}
-use Rattle.spe_transactions.proofs.WorkLemmas.{kept_ends, written_ends, written_low}
+use Rattle.spe_transactions.proofs.WorkLemmas.{kept_ends, written_ends}
 use Rattle.spe_store.specs.declared.work.Work.{Work}
 use Rattle.spe_store.specs.Desk.{ReadsPage}
 use Rattle.spe_store.specs.Call.{GivesPage, IsGiven, IsInside, MayRead, own_count}
-use Rattle.spe_store.specs.Event.{Event, entries_in, journalled_in, seen_in, with_seen, written_in}
+use Rattle.spe_store.specs.Event.{Event, journalled_in, seen_in, with_seen, written_in}
 use Rattle.spe_store.specs.Event.Event.{Read}
 use Rattle.spe_store.specs.Opened.{Opened}
 use Rattle.spe_store.specs.Store.{AreSeen, IfTold, IsServing, IsStored, Order, Store, pages_in}

@@ -1,7 +1,7 @@
 -- A transaction saves a page in its journal.
-use Rattle.std.proofs.Common.{◌≡◌, ◌≢◌, ℕ, zero, suc, ◌+◌, ◌-◌, ◌*◌, ◌<◌, ◌≤◌, List, [], ◌∷◌, ◌++◌, length, take, drop, get_or, refl, sym, ap, ◌∙◌, subst, arith, Bool, true, false, Option, Some, None, Err, ⊎_elim, inl, get_or-drop, length-append}
-use Rattle.std.specs.Prelude.{is_some, nat_lt, slice_get, slice_set, if◌then◌else◌}
-use Rattle.std.proofs.lemmas.Bool.{cases_eq, eq-eqb, ltb-true, ne_eqb}
+use Rattle.std.proofs.Common.{◌≡◌, ◌≢◌, ℕ, zero, suc, ◌+◌, ◌-◌, ◌*◌, ◌<◌, ◌≤◌, List, [], ◌∷◌, ◌++◌, length, take, drop, get_or, refl, sym, ap, ◌∙◌, subst, arith, Bool, true, false, Option, Some, None, Err, ⊎_elim, get_or-drop, length-append}
+use Rattle.std.specs.Prelude.{is_some, nat_lt, slice_get, slice_set}
+use Rattle.std.proofs.lemmas.Bool.{cases_eq, ltb-true}
 use Rattle.std.proofs.lemmas.Bool.Decides.{nat_tests}
 use Rattle.std.proofs.lemmas.List.{append-nil}
 use Rattle.spe_model.specs.declared.file.FileNo.TheVariants.{Database, Journal}
@@ -23,13 +23,12 @@ use Rattle.spe_transactions.proofs.MovedLemmas.{IsMoved, moved_behind}
 use Rattle.spe_transactions.proofs.PageLemmas.{page_there, size_is}
 use Rattle.spe_transactions.proofs.WorkLemmas.{kept_ends, none_written}
 use Rattle.spe_transactions.proofs.WorksLemmas.{with_at, with_other_id, with_other_page}
-use Rattle.spe_store.specs.declared.saved.Saved.{Saved}
 use Rattle.spe_store.specs.declared.stop.Stop.{Stop}
 use Rattle.spe_store.specs.declared.work.Work.{Work}
 use Rattle.spe_store.specs.Desk.{Desk, Does, ReadsPage, Tries}
 use Rattle.spe_store.specs.Event.{Event, journalled_in, open_in, written_in}
 use Rattle.spe_store.specs.Event.Event.{Journalled}
-use Rattle.spe_store.specs.Saved.{changed_at, place_of, saved_at}
+use Rattle.spe_store.specs.Saved.{changed_at, has_saved, saved_at}
 use Rattle.spe_store.specs.Opened.{Opened}
 use Rattle.spe_store.specs.Store.{AreListed, IfTold, IsEnd, IsListed, IsServing, IsStored, Order, Store, pages_in}
 use Rattle.spe_store.specs.Call.{MayJournal}
@@ -37,7 +36,7 @@ use Rattle.spe_store.specs.Work.{IsSavedIn}
 use Rattle.spe_store.proofs.HeldLemmas.{added, done_held, due_same, listed, order_on, part_kept, refused_held, replaced, served, step_on}
 use Rattle.spe_store.proofs.ListLemmas.{set_length}
 use Rattle.spe_store.proofs.OpenLemmas.{now_is}
-use Rattle.spe_store.proofs.SavedLemmas.{absent_changed, has_saved, pushed_changed, pushed_saved}
+use Rattle.spe_store.proofs.SavedLemmas.{absent_changed, saved_some}
 
 u32_bytes : (bytes : List ℕ) → u32_at bytes 12 ≡ ((get_or bytes 12 0 * 256 + get_or bytes 13 0) * 256 + get_or bytes 14 0) * 256 + get_or bytes 15 0
 unfolding u32_at
@@ -55,7 +54,7 @@ nonce_stays front behind long =
     ∙ rw (get_front front behind 12 (omega arith), get_front front behind 13 (omega arith), get_front front behind 14 (omega arith), get_front front behind 15 (omega arith)) refl
     ∙ sym (u32_bytes front)
 
-none_given : (found : Option (List ℕ)) → is_some found ≡ false → found ≡ None
+pub none_given : (found : Option (List ℕ)) → is_some found ≡ false → found ≡ None
 none_given None e = refl
 none_given (Some bytes) e = absurd cc
 
@@ -174,25 +173,20 @@ module _ (opened : Opened) (s : Store) (works : List Work) (order : Order) (i : 
         sized = was.sized;
       })
       (let was = lists id w found in
-      let fresh : Saved = record { page = page; bytes = old; changed = false } in
       let absent : saved_at page w.saved ≡ None = was.saved page ∙ none_given (journalled_in s.events id page) (lacks) in
-      let now = λ (p : ℕ). ap (saved_at p) has.saved ∙ pushed_saved fresh w.saved p absent in
-      let marks = λ (p : ℕ). ap (changed_at p) has.saved ∙ pushed_changed fresh w.saved p refl in
       record {
         saved = λ p.
             ⊎_elim
             (λ (here : p ≡ page).
-            now p ∙ ap (λ (b : Bool). if b then Some old else saved_at p w.saved) (eq-eqb page p (sym here))
+            ap (λ (q : ℕ). saved_at q x.saved) here ∙ has.saved.here
             ∙ sym (ap (with_page id page old (journalled_in s.events) id) here ∙ with_at id page old (journalled_in s.events)))
-            (λ (other : p ≢ page).
-            now p ∙ ap (λ (b : Bool). if b then Some old else saved_at p w.saved) (ne_eqb page p (λ same. other (sym same)))
-            ∙ was.saved p ∙ sym (with_other_page id page old (journalled_in s.events) id p other))
+            (λ (other : p ≢ page). has.saved.other p other ∙ was.saved p ∙ sym (with_other_page id page old (journalled_in s.events) id p other))
             (cases_eq p page);
         changed = λ p own.
             ⊎_elim
             (λ (here : p ≡ page).
-            marks p ∙ ap (λ (q : ℕ). changed_at q w.saved) here ∙ absent_changed page w.saved absent ∙ sym (free.fresh lacks) ∙ ap (λ (q : ℕ). is_some (written_in s.events id q)) (sym here))
-            (λ (other : p ≢ page). marks p ∙ was.changed p (ap is_some (sym (with_other_page id page old (journalled_in s.events) id p other)) ∙ own))
+            has.saved.changed p ∙ ap (λ (q : ℕ). changed_at q w.saved) here ∙ absent_changed page w.saved absent ∙ sym (free.fresh lacks) ∙ ap (λ (q : ℕ). is_some (written_in s.events id q)) (sym here))
+            (λ (other : p ≢ page). has.saved.changed p ∙ was.changed p (ap is_some (sym (with_other_page id page old (journalled_in s.events) id p other)) ∙ own))
             (cases_eq p page);
         own = has.own ∙ was.own;
         begun = le_lt x.end (omega (arith, has.end)) ∙ sym begun;
@@ -201,10 +195,10 @@ module _ (opened : Opened) (s : Store) (works : List Work) (order : Order) (i : 
         sized = λ p b at.
             ⊎_elim
             (λ (here : p ≡ page).
-            let both : Some old ≡ Some b = sym (now p ∙ ap (λ (t : Bool). if t then Some old else saved_at p w.saved) (eq-eqb page p (sym here))) ∙ at in
+            let both : Some old ≡ Some b = sym (ap (λ (q : ℕ). saved_at q x.saved) here ∙ has.saved.here) ∙ at in
             let is : old ≡ b = cc in
             ap length (sym is) ∙ sized)
-            (λ (other : p ≢ page). was.sized p b (sym (now p ∙ ap (λ (t : Bool). if t then Some old else saved_at p w.saved) (ne_eqb page p (λ same. other (sym same)))) ∙ at))
+            (λ (other : p ≢ page). was.sized p b (sym (has.saved.other p other) ∙ at))
             (cases_eq p page);
       })
     where
@@ -248,5 +242,5 @@ module _ (opened : Opened) (s : Store) (works : List Work) (order : Order) (i : 
       by_told (Some h) e v adds = adds ∙ ap (λ (o : Operation). Some (grown h (o ∷ []))) (own_op h e v (listed opened s works order i does.going))
 
 -- whether a page is journalled, as the store has it
-pub journalled_is : (page_size : ℕ) (events : List Event) (id : ℕ) (w : Work) → IsListed page_size events id w → (page : ℕ) (b : Bool) → b ≡ is_some (place_of page w.saved) → has_page (journalled_in events) id page ≡ b
-journalled_is page_size events id w lists page b is = ap is_some (sym (lists.saved page)) ∙ sym (has_saved page w.saved) ∙ sym is
+pub journalled_is : (page_size : ℕ) (events : List Event) (id : ℕ) (w : Work) → IsListed page_size events id w → (page : ℕ) (b : Bool) → b ≡ has_saved page w.saved → has_page (journalled_in events) id page ≡ b
+journalled_is page_size events id w lists page b is = ap is_some (sym (lists.saved page)) ∙ saved_some page w.saved ∙ sym is

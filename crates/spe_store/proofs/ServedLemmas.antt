@@ -1,20 +1,19 @@
 -- What is said of the pages, with one entry more in the list of commits.
-use Rattle.std.proofs.Common.{◌≡◌, ℕ, suc, ◌+◌, ◌*◌, ◌<◌, ◌≤◌, List, [], ◌∷◌, ◌++◌, length, map, take, drop, get_or, All, refl, sym, ap, ◌∙◌, subst, arith, true, false, Option, Some, None, ⊎_elim}
+use Rattle.std.proofs.Common.{◌≡◌, ℕ, ◌+◌, ◌*◌, ◌<◌, ◌≤◌, List, [], ◌∷◌, ◌++◌, length, take, get_or, refl, sym, ap, ◌∙◌, subst, arith, true, Option, Some, None, ⊎_elim}
 use Rattle.std.specs.Prelude.{is_some, unwrap_or}
 use Rattle.std.proofs.Common.{get_or-drop}
 use Rattle.std.proofs.lemmas.Bool.{cases_lt}
-use Rattle.std.proofs.lemmas.List.{get_or-take, length-append, length-map, map-append, take-append-le, take_all}
+use Rattle.std.proofs.lemmas.List.{get_or-take, length-append, length-map, take-append-le, take_all}
 use Rattle.std.proofs.lemmas.List.Elements.{All-weaker}
 use Rattle.spe_model.specs.Big.{u32_at}
 use Rattle.spe_model.specs.Database.{Database}
 use Rattle.spe_model.specs.Justified.{Justified, ServedSince}
 use Rattle.spe_model.specs.Meaning.{result_of}
-use Rattle.spe_model.specs.Paging.{Agrees, Paging, PageMap, lay}
-use Rattle.spe_model.specs.Recovery.{pages_to}
+use Rattle.spe_model.specs.Paging.{Agrees, PageMap, lay}
 use Rattle.spe_model.specs.Settled.{page_in}
 use Rattle.spe_model.specs.Trace.{History}
 use Rattle.spe_crash.proofs.NumbersLemmas.{pages_to-length}
-use Rattle.spe_transactions.specs.Commits.{laid_by, pages_after}
+use Rattle.spe_transactions.specs.Commits.{pages_after}
 use Rattle.spe_transactions.specs.Kept.{WorkKept}
 use Rattle.spe_transactions.specs.Pages.{MayCommit, laid_pages, named_count, page_at}
 use Rattle.spe_transactions.specs.Work.{Works}
@@ -22,7 +21,7 @@ use Rattle.spe_transactions.proofs.CommitsLemmas.{after_all}
 use Rattle.spe_transactions.proofs.GrowthLemmas.{saying_changes}
 use Rattle.spe_transactions.proofs.PageLemmas.{is_at, page_counted, page_there}
 use Rattle.spe_store.specs.Opened.{Opened}
-use Rattle.spe_store.specs.Served.{AreKept, AreServed, Entry, Says, asked_of, commit_of, commits_of, database_after, pages_of}
+use Rattle.spe_store.specs.Served.{AreServed, Entry, Says, asked_of, commit_of, commits_of, database_after, pages_of}
 use Rattle.spe_store.specs.Store.{AreSeen}
 
 database_more : (db : Database) (es : List Entry) (e : Entry) → database_after db (es ++ e ∷ []) ≡ result_of (database_after db es) e.log.body

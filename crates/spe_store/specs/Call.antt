@@ -1,5 +1,5 @@
 -- What the calls of a store ask for, and what they answer.
-use Rattle.std.specs.Prelude.{◌≡◌, ◌≢◌, ◌⊎◌, ◌+◌, ◌^◌, ℕ, ◌<◌, ◌≤◌, true, false, not, ◌&&◌, ◌==◌, ◌/◌, ◌*◌, ◌-◌, if◌then◌else◌, ◌%◌, Bool, List, [], ◌∷◌, ◌++◌, length, take, Option, Some, None, unwrap_or}
+use Rattle.std.specs.Prelude.{◌≡◌, ◌≢◌, ◌⊎◌, ◌+◌, ◌^◌, ℕ, ◌<◌, ◌≤◌, true, false, not, ◌&&◌, ◌-◌, ◌%◌, Bool, List, [], ◌∷◌, ◌++◌, length, take, Option, Some, None, unwrap_or}
 use Rattle.std.specs.Option.{option_map}
 use Rattle.spe_model.specs.declared.file.FileNo.TheVariants.{Journal}
 use Rattle.spe_model.specs.Big.{u32_at}
@@ -10,7 +10,7 @@ use Rattle.spe_model.specs.Journal.{record_bytes}
 use Rattle.spe_model.specs.Recovery.{journal_of}
 use Rattle.spe_model.specs.Rollback.{cut_of, write_of}
 use Rattle.spe_model.specs.Settled.{IsFound, header_in, page_in}
-use Rattle.spe_model.specs.Trace.{History, IsCut, Operation, after, present}
+use Rattle.spe_model.specs.Trace.{History, IsCut, Operation, present}
 use Rattle.spe_model.specs.Trace.Operation.{Write}
 use Rattle.spe_transactions.specs.Growth.{CutMeets, IsOpening}
 use Rattle.spe_transactions.specs.Kept.{grown}
@@ -28,9 +28,9 @@ use Rattle.spe_store.specs.Event.{Event, broken_in, entries_in, journalled_in, o
 use Rattle.spe_store.specs.Event.Event.{Begun, Broken, Committed, Journalled, Undone}
 use Rattle.spe_store.specs.Opened.{Opened}
 use Rattle.spe_store.specs.Pass.{AreAlike, Pass}
-use Rattle.spe_store.specs.Saved.{marked}
+use Rattle.spe_store.specs.Saved.{AreJust}
 use Rattle.spe_store.specs.Served.{Entry, Says, commits_of}
-use Rattle.spe_store.specs.Store.{AreSeen, HadStopped, HasDone, IfTold, IsRefused, Store, pages_in}
+use Rattle.spe_store.specs.Store.{AreSeen, HadStopped, HasDone, IfTold, Store, pages_in}
 
 -- the store has of the pass just what the pass lists
 abbrev pub IsTied : Store → Pass → Type 0
@@ -221,6 +221,12 @@ pub record HasUndoneOne (old new : Store) (before now : Pass) : Type 0 where
 
 abbrev pub UndoesOne : (old new : Store) (before now : Pass) → Type 0
 UndoesOne old new before now = ((IsUndone old before.id) × (old.desk.stopped ≡ None) × (new ≡ old) × (now ≡ before)) ⊎ HasUndoneOne old new before now
+
+-- so many pages are left that the transaction has journalled and written
+pub record AreToUndo (s : Store) (id left : ℕ) : Type 0 where
+  pub pages : List ℕ
+  pub each : AreJust (λ (p : ℕ). has_page (journalled_in s.events) id p && has_page (written_in s.events) id p) pages
+  pub count : left ≡ length pages
 
 -- a page was not undone, as an operation failed
 abbrev pub IsStill : (old new : Store) → ℕ → Type 0

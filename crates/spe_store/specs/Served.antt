@@ -6,7 +6,7 @@ use Rattle.spe_model.specs.Justified.{Asked, Opening, ServedSince}
 use Rattle.spe_model.specs.Meaning.{result_of}
 use Rattle.spe_model.specs.Paging.{Paging, PageMap}
 use Rattle.spe_model.specs.Trace.{History}
-use Rattle.spe_transactions.specs.Commits.{Commit, laid_by, pages_after}
+use Rattle.spe_transactions.specs.Commits.{Commit, laid_by}
 use Rattle.spe_transactions.specs.Growth.{Saying}
 use Rattle.spe_transactions.specs.Kept.{StopsKept}
 use Rattle.spe_transactions.specs.Pages.{page_at}

@@ -1,29 +1,23 @@
 -- What a store is seen as, and what holds of it between two calls.
-use Rattle.std.specs.Prelude.{◌≡◌, ◌≢◌, ◌⊎◌, ◌+◌, ◌-◌, ◌^◌, ℕ, suc, ◌<◌, ◌≤◌, nat_lt, Bool, true, false, ◌==◌, if◌then◌else◌, List, [], ◌∷◌, ◌++◌, length, take, All, Option, Some, None, is_some, unwrap_or, slice_get}
+use Rattle.std.specs.Prelude.{◌≡◌, ◌⊎◌, ◌-◌, ◌^◌, ℕ, suc, ◌<◌, ◌≤◌, nat_lt, true, if◌then◌else◌, List, [], ◌∷◌, length, All, Option, Some, None, is_some, slice_get}
 use Rattle.std.specs.Option.{option_map}
 use Rattle.spe_model.specs.declared.commit.Commit as model
 use Rattle.spe_model.specs.Big.{u32_at}
-use Rattle.spe_model.specs.declared.file.FileNo.TheVariants.{Database}
-use Rattle.spe_model.specs.Content.{Content, bytes_of}
-use Rattle.spe_model.specs.Covered.{Covered, Recovers}
+use Rattle.spe_model.specs.Content.{Content}
 use Rattle.spe_model.specs.Faults.{Rose}
-use Rattle.spe_model.specs.Header.{is_size_valid}
 use Rattle.spe_model.specs.Recovery.{file_page_size, journal_of}
-use Rattle.spe_model.specs.Settled.{IsFound, header_in}
-use Rattle.spe_model.specs.Trace.{History, IsCut, Operation, after, present}
-use Rattle.spe_transactions.specs.Growth.{CutMeets}
+use Rattle.spe_model.specs.Trace.{History, Operation, present}
 use Rattle.spe_transactions.specs.Kept.{WorkKept}
-use Rattle.spe_transactions.specs.Pages.{MayCommit, laid_pages, named_count, page_at}
-use Rattle.spe_transactions.specs.Work.{has_page}
+use Rattle.spe_transactions.specs.Pages.{named_count, page_at}
 use Rattle.spe_store.specs.declared.stop.StoreFault.{StoreFault}
-use Rattle.spe_store.specs.declared.stop.StoreFault.TheVariants.{ReadFault, Stopped, PageOut, Memory}
+use Rattle.spe_store.specs.declared.stop.StoreFault.TheVariants.{Stopped}
 use Rattle.spe_store.specs.declared.work.Work.{Work}
-use Rattle.spe_store.specs.Desk.{Breaks, Desk, Looks, ReadsPage}
+use Rattle.spe_store.specs.Desk.{Breaks, Desk}
 use Rattle.spe_store.specs.Event.{Event, broken_in, entries_in, journalled_in, lives_in, open_in, out_in, seen_in, written_in}
 use Rattle.spe_store.specs.Opened.{Opened}
 use Rattle.spe_store.specs.Pass.{Pass}
-use Rattle.spe_store.specs.Saved.{changed_at, marked, saved_at}
-use Rattle.spe_store.specs.Served.{AreKept, AreLeft, Entry, Says, commits_of, pages_of, rows_from}
+use Rattle.spe_store.specs.Saved.{changed_at, saved_at}
+use Rattle.spe_store.specs.Served.{AreLeft, Entry, Says, commits_of, pages_of, rows_from}
 
 pub record Store : Type 0 where
   pub desk : Desk

@@ -1,15 +1,15 @@
 -- What becomes of what a store holds of a transaction.
-use Rattle.std.specs.Prelude.{◌≡◌, ◌+◌, ℕ, ◌==◌, ◌&&◌, not, suc, true, false, if◌then◌else◌, List, [], ◌∷◌, ◌++◌, length, All, Option, Some, None}
+use Rattle.std.specs.Prelude.{◌≡◌, ◌+◌, ℕ, ◌==◌, ◌&&◌, not, suc, true, false, if◌then◌else◌, List, [], ◌∷◌, length, All, Option, Some, None}
 use Rattle.std.specs.Option.{option_map}
 use Rattle.spe_transactions.specs.Pages.{named_count}
 use Rattle.spe_store.specs.declared.work.Work.{Work}
-use Rattle.spe_store.specs.Saved.{marked}
+use Rattle.spe_store.specs.Saved.{Adds, Marks, no_pages}
 
 -- there is no transaction
 pub record IsIdle (w : Work) : Type 0 where
   pub end : w.end ≡ 0
   pub own : w.own ≡ None
-  pub saved : w.saved ≡ []
+  pub saved : w.saved ≡ no_pages
   pub due : w.due ≡ false
   pub out : w.out ≡ false
 
@@ -17,7 +17,7 @@ pub record IsIdle (w : Work) : Type 0 where
 pub record HasEnded (old new : Work) : Type 0 where
   pub end : new.end ≡ 0
   pub own : new.own ≡ None
-  pub saved : new.saved ≡ []
+  pub saved : new.saved ≡ no_pages
   pub due : new.due ≡ false
   pub out : new.out ≡ old.out
 
@@ -25,7 +25,7 @@ pub record HasEnded (old new : Work) : Type 0 where
 pub record HasBegun (old new : Work) : Type 0 where
   pub end : new.end ≡ 0
   pub own : new.own ≡ None
-  pub saved : new.saved ≡ []
+  pub saved : new.saved ≡ no_pages
   pub due : new.due ≡ true
   pub out : new.out ≡ true
 
@@ -48,7 +48,7 @@ pub record IsSavedIn (page_size page : ℕ) (bytes : List ℕ) (old new : Work) 
   pub own : new.own ≡ old.own
   pub due : new.due ≡ old.due
   pub out : new.out ≡ old.out
-  pub saved : new.saved ≡ old.saved ++ record { page = page; bytes = bytes; changed = false } ∷ []
+  pub saved : Adds page bytes old.saved new.saved
 
 -- what a transaction is once it has written a page, or has its old bytes back
 pub record HasWritten (page : ℕ) (bytes : List ℕ) (old new : Work) : Type 0 where
@@ -57,7 +57,7 @@ pub record HasWritten (page : ℕ) (bytes : List ℕ) (old new : Work) : Type 0 
   pub own : new.own ≡ own_after page bytes old.own
   pub due : new.due ≡ old.due
   pub out : new.out ≡ old.out
-  pub saved : new.saved ≡ marked page true old.saved
+  pub saved : Marks page true old.saved new.saved
 
 pub record HasUndone (page : ℕ) (old new : Work) : Type 0 where
   pub nonce : new.nonce ≡ old.nonce
@@ -65,7 +65,7 @@ pub record HasUndone (page : ℕ) (old new : Work) : Type 0 where
   pub own : new.own ≡ own_without page old.own
   pub due : new.due ≡ old.due
   pub out : new.out ≡ old.out
-  pub saved : new.saved ≡ marked page false old.saved
+  pub saved : Marks page false old.saved new.saved
 
 -- the first id that is not out, and whose journal is not open
 abbrev pub free_place : List Work → Option ℕ

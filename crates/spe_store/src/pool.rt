@@ -1,20 +1,59 @@
 //! Passes are begun and finished, and ids come back.
 
+ghost use Rattle.std.specs.Prelude.{◌≡◌, ◌≤◌, ◌<◌, length, IfSome};
+ghost use Rattle.spe_store.specs.Work.{free_place};
+
 use crate::kind::Kind;
 use crate::opening::Opening;
-use crate::pass::{IdSeat, Pass};
+use crate::pass::{IDS, IdSeat, Pass};
 use crate::session::SessionSeat;
+use crate::stop::BeginFault;
 use crate::store::Store;
-use crate::story::Done;
+use crate::story::{Done, Story};
+use crate::work::Work;
 use spe_disk::Disk;
+use std::alloc::AllocError;
 
 impl<D: Disk, N: Opening> Store<D, N> {
-    ghost use Rattle.std.specs.Prelude.{◌≡◌, false, None, length, max};
-    ghost use Rattle.spe_store.specs.Call.{EntersIf, IsTied};
+    ghost use Rattle.std.specs.Prelude.{◌≡◌, false, None, length, max, IfOk, IfErr};
+    ghost use Rattle.spe_store.specs.Call.{EntersIf, HasBegun, IsTied, IsUnbegun};
     ghost use Rattle.spe_store.specs.Event.{entries_in, open_in, seen_in};
     ghost use Rattle.spe_store.specs.Event.Event.{Finished, Returned};
     ghost use Rattle.spe_store.specs.Pass.{OthersStay};
     ghost use Rattle.spe_store.specs.Store.{AreSeen, IfTold, pages_in};
+
+    /// Begins a pass with the lowest id that is free, and takes the room of its entry in the list of commits.
+    ///
+    /// `Stopped` comes exactly where the store has stopped, and `Sixteen` exactly where it has not and no id
+    /// is free.
+    pub fn take_pass(&mut self, _session: &mut SessionSeat) -> Result<Pass, BeginFault>
+        ensures begun { IfOk result (HasBegun self.old self.new) }
+        ensures tied { IfOk result (IsTied self.new) }
+        ensures others { IfOk result (λ pass. OthersStay self.new.events self.old.events pass.id) }
+        ensures unbegun { IfErr result (IsUnbegun self.old self.new) }
+        ensures session { _session.new ≡ _session.old }
+    {
+        if let Some(op) = self.desk.stopped() {
+            return Err(BeginFault::Stopped { op });
+        }
+        let Some(id) = free_id(self.works.as_slice()) else {
+            return Err(BeginFault::Sixteen);
+        };
+        match self.order.reserve(IDS) {
+            Ok(()) => (),
+            Err(AllocError) => return Err(BeginFault::Memory),
+        }
+        self.works[usize::from(id)].begin(self.alloc);
+        let done = Done {
+            kind: Kind::Begin,
+            id,
+            page: 0,
+            bytes: &[],
+        };
+        self.story = self.story.with(&done);
+        let story = Story::none().with(&done);
+        Ok(Pass { id, story })
+    }
 
     /// Finishes a pass whose journal is not open, or any once the store has stopped, and answers how many
     /// commits there are: all that it has read, unless it has committed, is as after these.
@@ -65,4 +104,22 @@ impl<D: Disk, N: Opening> Store<D, N> {
             bytes: &[],
         });
     }
+}
+
+// The first id that is free.
+fn free_id(works: &[Work]) -> Option<u8>
+    requires few { length works.now ≤ 16 }
+    ensures place { result ≡ free_place works.now }
+    ensures within { IfSome result (λ id. id < length works.now) }
+{
+    let mut id = 0;
+    let mut left = works;
+    while let [first, rest @ ..] = left {
+        if first.is_free() {
+            return Some(id);
+        }
+        id += 1;
+        left = rest;
+    }
+    None
 }

@@ -9,9 +9,9 @@ use crate::story::Done;
 use spe_disk::Disk;
 
 impl<D: Disk, N: Opening> Store<D, N> {
-    ghost use Rattle.std.specs.Prelude.{◌≡◌, length, OnOk, IfErr};
+    ghost use Rattle.std.specs.Prelude.{◌≡◌, length, OnOk, IfOk, IfErr};
     ghost use Rattle.spe_model.specs.Rollback.{write_of};
-    ghost use Rattle.spe_store.specs.Call.{HasFront, IsTied, MayWrite};
+    ghost use Rattle.spe_store.specs.Call.{AreToUndo, HasFront, IsStill, IsTied, IsUndone, MayWrite, UndoesOne};
     ghost use Rattle.spe_store.specs.Desk.{Does};
     ghost use Rattle.spe_store.specs.Event.Event.{Written};
     ghost use Rattle.spe_store.specs.Pass.{OthersStay};
@@ -46,5 +46,43 @@ impl<D: Disk, N: Opening> Store<D, N> {
         pass.story = pass.story.with(&done);
         self.story = self.story.with(&done);
         Ok(())
+    }
+
+    /// Gives a page that the transaction has journalled and written its old bytes again, and answers how many
+    /// such pages are left. Where there was none it does nothing. Answers `Stopped` alone.
+    pub fn undo_one(&mut self, pass: &mut Pass) -> Result<usize, StoreFault>
+        requires tied { IsTied self.old pass.old }
+        ensures undone { OnOk result (UndoesOne self.old self.new pass.old pass.new) }
+        ensures left { IfOk result (AreToUndo self.new pass.old.id) }
+        ensures over { IfOk result (λ left. left ≡ 0 → IsUndone self.new pass.old.id) }
+        ensures refused { IfErr result (λ fault. OnStop fault (IsStill self.old self.new)) }
+        ensures pass { IfErr result (λ _. pass.new ≡ pass.old) }
+        ensures tied { IsTied self.new pass.new }
+        ensures others { OthersStay self.new.events self.old.events pass.old.id }
+    {
+        if let Some(op) = self.desk.stopped() {
+            return Err(StoreFault::Stopped { op });
+        }
+        let id = pass.id;
+        let work = &self.works[usize::from(id)];
+        let Some((page, bytes)) = work.saved.last_changed() else {
+            return Ok(0);
+        };
+        match self.desk.write_page(self.page_size, page, bytes) {
+            Ok(()) => (),
+            Err(stop) => return Err(StoreFault::Stopped { op: stop.op }),
+        }
+        let undone = &mut self.works[usize::from(id)];
+        undone.undid(page);
+        let left = undone.saved.changed_count();
+        let done = Done {
+            kind: Kind::Undo,
+            id,
+            page,
+            bytes: &[],
+        };
+        pass.story = pass.story.with(&done);
+        self.story = self.story.with(&done);
+        Ok(left)
     }
 }

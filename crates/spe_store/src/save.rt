@@ -100,7 +100,7 @@ impl<D: Disk, N: Opening> Store<D, N> {
         let story = self.story.with(&done);
         let Entry { old, text, end } = entry;
         let work = &mut self.works[usize::from(pass.id)];
-        match work.saved.push(page, old) {
+        match work.saved.add(page, old) {
             Ok(()) => (),
             Err(AllocError) => return Err(StoreFault::Memory),
         }

@@ -1,154 +1,135 @@
 //! The pages that a transaction has journalled.
 
-ghost use Rattle.std.specs.Prelude.{◌≡◌, ◌<◌, length, IfSome};
-ghost use Rattle.spe_store.specs.Saved.{NextIs, changed_count, marked, next_changed, place_of};
+ghost use Rattle.std.specs.Prelude.{◌≡◌, ◌<◌, ◌≤◌, ◌-◌, ◌++◌, ◌∷◌, [], length, take, vec_capacity};
 
 use spe_model::Bytes;
 use std::alloc::{AllocError, Global};
+use std::collections::BTreeMap;
 use std::marker::Model;
 
-/// A page with its bytes before the transaction, and whether it was written since.
+/// The bytes of a page before the transaction, and whether it was written since.
 #[derive(Drop)]
 pub(crate) struct Saved {
-    pub(crate) page: u32,
     pub(crate) bytes: Bytes,
     pub(crate) changed: bool,
 }
 
-/// Pages that were journalled, in that order, seen as a list.
+/// The pages that a transaction has journalled, by their numbers, with a list of those that it has written
+/// since, in that order. The list has room for each of them.
 #[derive(Drop)]
 pub(crate) struct SavedPages {
-    inner: Vec<Saved>,
+    map: BTreeMap<u32, Saved>,
+    changed: Vec<u32>,
 }
 
 impl Model for SavedPages {
-    ghost use Rattle.std.specs.Prelude.{List};
-    ghost use Rattle.spe_store.specs.declared.saved.Saved.{Saved};
+    ghost use Rattle.std.specs.Prelude.{vec_capacity};
+    ghost use Rattle.spe_store.specs.Saved.{AreSaved, SavedPages};
 
-    ghost Value = { List Saved };
+    ghost Value = { SavedPages };
 
-    ghost view = { λ s. s.inner.items };
+    ghost view = { λ s. record { entries = s.map.entries; changed = s.changed.items } };
+
+    ghost invariant = { λ s. AreSaved (record { entries = s.map.entries; changed = s.changed.items }) (vec_capacity s.changed) };
 }
 
 impl SavedPages {
-    ghost use Rattle.std.specs.Prelude.{◌≡◌, ◌<◌, [], ◌∷◌, ◌++◌, false, is_some, OnOk, OnErr};
-    ghost use Rattle.spe_store.specs.Saved.{changed_count, marked, next_changed, place_of, NextIs};
+    ghost use Rattle.std.specs.Prelude.{◌≡◌, false, true, length, OnOk, OnErr};
+    ghost use Rattle.spe_store.specs.Saved.{Adds, AreJust, IsLast, LastIs, Marks, changed_at, has_saved, no_pages};
 
     /// None.
     pub(crate) fn none(alloc: Global) -> SavedPages
-        ensures { result ≡ [] }
+        ensures { result ≡ no_pages }
     {
         SavedPages {
-            inner: Vec::new(alloc),
+            map: BTreeMap::new(alloc),
+            changed: Vec::new(alloc),
         }
-    }
-
-    /// One page more.
-    pub(crate) fn push(&mut self, page: u32, bytes: Bytes) -> Result<(), AllocError>
-        ensures ok { OnOk result (self.new ≡ self.old ++ record { page = page; bytes = bytes; changed = false } ∷ []) }
-        ensures err { OnErr result (self.new ≡ self.old) }
-    {
-        self.inner.push(Saved {
-            page,
-            bytes,
-            changed: false,
-        })?;
-        Ok(())
     }
 
     /// Whether a page is among these.
     pub(crate) fn has(&self, page: u32) -> bool
-        ensures { result ≡ is_some (place_of page self.now) }
+        ensures { result ≡ has_saved page self.now }
     {
-        place_of(self.inner.as_slice(), page).is_some()
+        self.map.contains_key(&page)
+    }
+
+    /// One page more, with room to note that it is written.
+    pub(crate) fn add(&mut self, page: u32, bytes: Bytes) -> Result<(), AllocError>
+        requires { has_saved page self.old ≡ false }
+        ensures ok { OnOk result (Adds page bytes self.old self.new) }
+        ensures err { OnErr result (self.new ≡ self.old) }
+    {
+        self.changed.reserve(self.map.len() + 1)?;
+        let saved = Saved {
+            bytes,
+            changed: false,
+        };
+        let _old = self.map.insert(page, saved)?;
+        Ok(())
+    }
+
+    /// Notes that a page is written, where it is among these. It takes no memory.
+    pub(crate) fn mark(&mut self, page: u32)
+        ensures { Marks page true self.old self.new }
+    {
+        let Some(saved) = self.map.get_mut(&page) else {
+            return;
+        };
+        if saved.changed {
+            return;
+        }
+        saved.changed = true;
+        note(&mut self.changed, page);
+    }
+
+    /// The page that was written last, with its bytes before.
+    pub(crate) fn last_changed(&self) -> Option<(u32, &[u8])>
+        ensures { LastIs self.now result }
+    {
+        let Some(page) = self.changed.last() else {
+            return None;
+        };
+        let Some(saved) = self.map.get(page) else {
+            return None;
+        };
+        Some((*page, saved.bytes.as_slice()))
+    }
+
+    /// Notes that the page that was written last is not written any more.
+    pub(crate) fn unmark(&mut self, page: u32)
+        requires { IsLast page self.old }
+        ensures { Marks page false self.old self.new }
+    {
+        drop_last(&mut self.changed);
+        let Some(saved) = self.map.get_mut(&page) else {
+            return;
+        };
+        saved.changed = false;
     }
 
     /// How many are written.
     pub(crate) fn changed_count(&self) -> usize
-        ensures { result ≡ changed_count self.now }
+        ensures count { result ≡ length self.now.changed }
+        ensures each { AreJust (λ p. changed_at p self.now) self.now.changed }
     {
-        changed_count(self.inner.as_slice())
-    }
-
-    /// A page that is written, with its bytes before.
-    pub(crate) fn next_changed(&self) -> Option<(u32, &[u8])>
-        ensures next { NextIs self.now result }
-    {
-        next_of(self.inner.as_slice())
-    }
-
-    /// Notes that a page is written, or is not any more, where it is among these.
-    pub(crate) fn mark(&mut self, page: u32, changed: bool)
-        ensures { self.new ≡ marked page changed self.old }
-    {
-        mark(&mut self.inner, page, changed);
+        self.changed.len()
     }
 }
 
-// Where a page stands among some.
-fn place_of(saved: &[Saved], page: u32) -> Option<usize>
-    ensures place { result ≡ place_of page saved.now }
-    ensures within { IfSome result (λ at. at < length saved.now) }
+// Adds a number, for which there is room.
+fn note(list: &mut Vec<u32>, page: u32)
+    requires { length list.old.items < vec_capacity list.old }
+    ensures items { list.new.items ≡ list.old.items ++ page ∷ [] }
+    ensures capacity { vec_capacity list.old ≤ vec_capacity list.new }
 {
-    let mut at = 0;
-    let mut left = saved;
-    while let [first, rest @ ..] = left {
-        if first.page == page {
-            return Some(at);
-        }
-        at += 1;
-        left = rest;
-    }
-    None
+    let _noted = list.push(page);
 }
 
-// How many are written.
-fn changed_count(saved: &[Saved]) -> usize
-    ensures { result ≡ changed_count saved.now }
+// Takes the last number off.
+fn drop_last(list: &mut Vec<u32>)
+    ensures items { list.new.items ≡ take (length list.old.items - 1) list.old.items }
+    ensures capacity { vec_capacity list.new ≡ vec_capacity list.old }
 {
-    let mut count = 0;
-    let mut left = saved;
-    while let [first, rest @ ..] = left {
-        if first.changed {
-            count += 1;
-        }
-        left = rest;
-    }
-    count
-}
-
-// The first page that is written.
-fn next_changed(saved: &[Saved]) -> Option<u32>
-    ensures { result ≡ next_changed saved.now }
-{
-    let mut left = saved;
-    while let [first, rest @ ..] = left {
-        if first.changed {
-            return Some(first.page);
-        }
-        left = rest;
-    }
-    None
-}
-
-// A page that is written, with its bytes before.
-fn next_of(saved: &[Saved]) -> Option<(u32, &[u8])>
-    ensures { NextIs saved.now result }
-{
-    let Some(page) = next_changed(saved) else {
-        return None;
-    };
-    let Some(at) = place_of(saved, page) else {
-        return None;
-    };
-    Some((page, saved[at].bytes.as_slice()))
-}
-
-// Notes that a page is written, or is not any more, where it is among these.
-fn mark(saved: &mut [Saved], page: u32, changed: bool)
-    ensures { saved.new ≡ marked page changed saved.old }
-{
-    if let Some(at) = place_of(saved, page) {
-        saved[at].changed = changed;
-    }
+    let _last = list.pop();
 }

@@ -32,6 +32,7 @@ pub(crate) struct Work {
 
 impl Work {
     ghost use Rattle.std.specs.Prelude.{◌≡◌, ◌≤◌, ◌==◌, ◌&&◌, not, length};
+    ghost use Rattle.spe_store.specs.Saved.{IsLast};
     ghost use Rattle.spe_store.specs.Work.{HasBegun, HasEnded, HasUndone, HasWritten, IsIdle};
 
     /// There is no transaction.
@@ -79,15 +80,16 @@ impl Work {
         ensures { HasWritten page bytes.now self.old self.new }
     {
         self.own = own_after(page, bytes, self.own);
-        self.saved.mark(page, true);
+        self.saved.mark(page);
     }
 
-    /// A page has its old bytes again.
+    /// The page that was written last has its old bytes again.
     pub(crate) fn undid(&mut self, page: u32)
+        requires { IsLast page self.old.saved }
         ensures { HasUndone page self.old self.new }
     {
         self.own = own_without(page, self.own);
-        self.saved.mark(page, false);
+        self.saved.unmark(page);
     }
 }
 

@@ -11,7 +11,7 @@ use Rattle.std.proofs.lemmas.Bool.{eqb-true, false_from_ne_true}
 use Rattle.std.proofs.lemmas.Slice.Eq.{bytes_eq-Decides}
 use Rattle.clap.specs.Walk.{texts}
 use Rattle.clap.specs.declared.parser.matches.ArgMatches.{ArgMatches}
-use Rattle.spe_words.specs.Found.{Answers, Finds, FindsLine, IsAsked, IsOf, IsSpelledBy, found_values, kind_options, kind_word}
+use Rattle.spe_words.specs.Found.{FindsCommand, ShowsLines, FindsLine, IsAsked, IsOf, IsSpelledBy, found_values, kind_options, kind_word}
 use Rattle.spe_words.specs.Grammar.{AreSettings, AskFor, IsFor, IsSetting, command_word, options_of, run_options}
 use Rattle.spe_words.specs.Line.{Spells, Text, begins_with_dash, is_among}
 use Rattle.spe_words.specs.declared.command.Command.{Command}
@@ -190,13 +190,13 @@ no_settings m none (Work db seed count) s = differ _ _ refl s.0
 
 -- ---- from what is found to the words
 
-answers_as : (P Q : Command → Type 0) → ((c : Command) → P c → Q c) → ((c : Command) → Q c → P c) → (r : Result Command WordsFault) → Answers P r → Answers Q r
+answers_as : (P Q : Command → Type 0) → ((c : Command) → P c → Q c) → ((c : Command) → Q c → P c) → (r : Result Command WordsFault) → FindsCommand P r → FindsCommand Q r
 answers_as P Q to from (Ok c) a = (to c a.0, λ d q. a.1 d (from d q))
 answers_as P Q to from (Err fault.Words) a = λ c q. a c (from c q)
 answers_as P Q to from (Err fault.Memory) a = tt
 
 module _ (k : Kind) (rest : List Text) where
-  module _ (m : ArgMatches) (finds : Finds (kind_options k) rest m) where
+  module _ (m : ArgMatches) (finds : ShowsLines (kind_options k) rest m) where
     of_spelled : (c : Command) → IsSpelledBy (kind_word k) rest c → IsOf (kind_word k) m c
     of_spelled c s =
         let e = options_by k c s.0 in
@@ -210,21 +210,21 @@ module _ (k : Kind) (rest : List Text) where
         let shown = finds.each l.0 l.1 in
         (s.0, (l.0, subst (λ names. Spells names rest l.0) (sym e) l.1, same_for c _ _ _ _ shown.0 (λ name among. shown.1 name (ap (λ names. is_among names name) (sym e) ∙ among)) s.1))
 
-    pub spelled_answer : (r : Result Command WordsFault) → Answers (IsOf (kind_word k) m) r → Answers (IsSpelledBy (kind_word k) rest) r
+    pub spelled_answer : (r : Result Command WordsFault) → FindsCommand (IsOf (kind_word k) m) r → FindsCommand (IsSpelledBy (kind_word k) rest) r
     spelled_answer r a = answers_as _ _ spelled_of of_spelled r a
 
-  pub no_line : (f : WordsFault) → FindsLine (kind_options k) rest (Err f) → Answers (IsSpelledBy (kind_word k) rest) (Err f)
+  pub no_line : (f : WordsFault) → FindsLine (kind_options k) rest (Err f) → FindsCommand (IsSpelledBy (kind_word k) rest) (Err f)
   no_line fault.Words none = λ c s. none s.1.0 (subst (λ names. Spells names rest s.1.0) (options_by k c s.0) s.1.1)
   no_line fault.Memory none = tt
 
 -- the same, where the options and the kind are named otherwise
-pub kind_answer : (k : Kind) (names rest : List Text) (word : Text) (m : ArgMatches) (r : Result Command WordsFault) → names ≡ kind_options k → Finds names rest m
-    → kind_word k ≡ word → Answers (IsOf word m) r → Answers (IsSpelledBy (kind_word k) rest) r
+pub kind_answer : (k : Kind) (names rest : List Text) (word : Text) (m : ArgMatches) (r : Result Command WordsFault) → names ≡ kind_options k → ShowsLines names rest m
+    → kind_word k ≡ word → FindsCommand (IsOf word m) r → FindsCommand (IsSpelledBy (kind_word k) rest) r
 kind_answer k names rest word m r e finds w a =
-    spelled_answer k rest m (subst (λ n. Finds n rest m) e finds) r (subst (λ t. Answers (IsOf t m) r) (sym w) a)
+    spelled_answer k rest m (subst (λ n. ShowsLines n rest m) e finds) r (subst (λ t. FindsCommand (IsOf t m) r) (sym w) a)
 
 pub kind_refused : (k : Kind) (names rest : List Text) (f : WordsFault) → names ≡ kind_options k → FindsLine names rest (Err f)
-    → Answers (IsSpelledBy (kind_word k) rest) (Err f)
+    → FindsCommand (IsSpelledBy (kind_word k) rest) (Err f)
 kind_refused k names rest f e none = no_line k rest f (subst (λ n. FindsLine n rest (Err f)) e none)
 
 -- ---- the command word
@@ -241,10 +241,10 @@ module _ (word : Text) (rest : List Text) where
 
 -- the command of words that begin with a command word
 pub asked_by : (words : List (Bor Text)) (word : Text) (w : Bor Text) (r : Result Command WordsFault) → 0 < length words → word ≡ (slice_index_or words 0 w).now
-    → Answers (IsSpelledBy word (drop 1 (texts words))) r → Answers (IsAsked (texts words)) r
+    → FindsCommand (IsSpelledBy word (drop 1 (texts words))) r → FindsCommand (IsAsked (texts words)) r
 asked_by [] word w r lt e a = absurd (omega arith)
 asked_by (x ∷ rest) word w r lt e a =
-    subst (λ t. Answers (IsAsked (t ∷ texts rest)) r) e
+    subst (λ t. FindsCommand (IsAsked (t ∷ texts rest)) r) e
     (answers_as (IsSpelledBy word (texts rest)) (IsAsked (word ∷ texts rest)) (spelled_asked word (texts rest)) (asked_spelled word (texts rest)) r a)
 
 kind_of_word : (c : Command) → (k : Kind) × (kind_word k ≡ command_word c)
@@ -268,7 +268,7 @@ asked_for words full c a = record { rest = a.0; are = a.1; no_empty = full; line
 for_asked : (words : List Text) → (c : Command) → AskFor words c → IsAsked words c
 for_asked words c a = (a.rest, a.are, (a.line, a.spells, a.asked))
 
-pub one_command : (P : Command → Type 0) (r : Result Command WordsFault) → Answers P r → IfOk r (λ c. (d : Command) → P d → d ≡ c)
+pub one_command : (P : Command → Type 0) (r : Result Command WordsFault) → FindsCommand P r → IfOk r (λ c. (d : Command) → P d → d ≡ c)
 one_command P (Ok c) a = a.1
 one_command P (Err f) a = tt
 
@@ -276,11 +276,11 @@ abbrev is_words : Result Command WordsFault → Bool
 is_words (Err fault.Words) = true
 is_words _ = false
 
-pub no_command : (P : Command → Type 0) (r : Result Command WordsFault) → Answers P r → r ≡ Err fault.Words → (c : Command) → ¬ P c
+pub no_command : (P : Command → Type 0) (r : Result Command WordsFault) → FindsCommand P r → r ≡ Err fault.Words → (c : Command) → ¬ P c
 no_command P (Ok c) a e = absurd (true≢false (sym (ap is_words e)))
 no_command P (Err fault.Words) a e = a
 no_command P (Err fault.Memory) a e = absurd (true≢false (sym (ap is_words e)))
 
-pub words_answer : (found words : List Text) (r : Result Command WordsFault) → found ≡ words → ¬ Contains words [] → Answers (IsAsked found) r → Answers (AskFor words) r
+pub words_answer : (found words : List Text) (r : Result Command WordsFault) → found ≡ words → ¬ Contains words [] → FindsCommand (IsAsked found) r → FindsCommand (AskFor words) r
 words_answer found words r e full a =
-    answers_as (IsAsked words) (AskFor words) (asked_for words full) (for_asked words) r (subst (λ ws. Answers (IsAsked ws) r) e a)
+    answers_as (IsAsked words) (AskFor words) (asked_for words full) (for_asked words) r (subst (λ ws. FindsCommand (IsAsked ws) r) e a)

@@ -15,7 +15,7 @@ use Rattle.clap.specs.declared.error.kind.ErrorKind.TheVariants.{OutOfMemory}
 use Rattle.clap.specs.declared.parser.matches.ArgMatches.{ArgMatches}
 use Rattle.clap.proofs.FaultLemmas.{leaf_fault}
 use Rattle.clap.proofs.WalkLemmas.{both, raw_values-rows}
-use Rattle.spe_words.specs.Found.{Finds, are_names, found_values}
+use Rattle.spe_words.specs.Found.{ShowsLines, are_names, found_values}
 use Rattle.spe_words.specs.Line.{Line, Spells, Text}
 use Rattle.spe_words.specs.Syntax.{syntax_of}
 use Rattle.spe_words.proofs.LineLemmas.{finds_read, unread}
@@ -127,10 +127,10 @@ module _ (app : App) (command : Text) (names words : List Text) (is : app ≡ sy
   understood : is_simple_and_free app ≡ true
   understood = ap is_simple_and_free is ∙ is_understood command names
 
-  pub finds : (m : ArgMatches) → (is_simple_and_free app ≡ true → FailsBy {T = ArgMatches} (fault_of app words) (Ok m)) → HasMatchesOf app words m → Finds names (drop 1 words) m
+  pub finds : (m : ArgMatches) → (is_simple_and_free app ≡ true → FailsBy {T = ArgMatches} (fault_of app words) (Ok m)) → HasMatchesOf app words m → ShowsLines names (drop 1 words) m
   finds m fails matches = go (read names None (drop 1 words)) refl comes
     where
-      go : (o : Option (List Entry)) → read names None (drop 1 words) ≡ o → Comes o (fault_of app words) [] (matches_of app words) → Finds names (drop 1 words) m
+      go : (o : Option (List Entry)) → read names None (drop 1 words) ≡ o → Comes o (fault_of app words) [] (matches_of app words) → ShowsLines names (drop 1 words) m
       go None e c = absurd (c (fails understood))
       go (Some entries) e c =
           finds_read names are (drop 1 words) m entries e (λ id. found_at m id ∙ ap (values_at id) (matches (both _ _ understood).0).0 ∙ c.1 id)

@@ -9,7 +9,7 @@ use Rattle.std.proofs.lemmas.Option.{none-some}
 use Rattle.clap.proofs.SimpleLemmas.{is_false}
 use Rattle.clap.proofs.WalkLemmas.{both}
 use Rattle.clap.specs.declared.parser.matches.ArgMatches.{ArgMatches}
-use Rattle.spe_words.specs.Found.{Finds, are_names, found_values}
+use Rattle.spe_words.specs.Found.{ShowsLines, are_names, found_values}
 use Rattle.spe_words.specs.Line.{Line, Part, Spells, Text, apart, begins_with_dash, is_among, joined, line_of, option_in, positional, positional_in, values_of}
 use Rattle.spe_words.proofs.GrammarLemmas.{AreParts, HasPlain, all_parts, are_parts, entries_of, entry_of, reads_parts, sound}
 use Rattle.spe_words.proofs.ReaderLemmas.{read, words_id}
@@ -95,7 +95,7 @@ module _ (names : List Text) (are : are_names names ≡ true) where
     entries_are entries is line s =
         ap (λ o. unwrap_or o entries) (sym is ∙ ap (read names None) s.spelled ∙ reads_parts names are s.parts s.last (are_parts names s.parts s.are_parts))
 
-    pub finds_read : (m : ArgMatches) (entries : List Entry) → read names None words ≡ Some entries → ((id : Text) → found_values m id ≡ values_in id entries) → Finds names words m
+    pub finds_read : (m : ArgMatches) (entries : List Entry) → read names None words ≡ Some entries → ((id : Text) → found_values m id ≡ values_in id entries) → ShowsLines names words m
     finds_read m entries is found = record {
       each = λ line s.
           let e = entries_are entries is line s in (

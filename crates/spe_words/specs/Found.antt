@@ -37,12 +37,12 @@ HasPlainValues names m =
     (name : Text) → is_among names name ≡ true → All (λ v. begins_with_dash v ≡ false) (found_values m name)
 
 -- the matches show each line that the words spell; they spell one unless a value begins with `-`
-pub record Finds (names words : List Text) (m : ArgMatches) : Type 0 where
+pub record ShowsLines (names words : List Text) (m : ArgMatches) : Type 0 where
   pub each : (line : Line) → Spells names words line → Shows names m line
   pub one : HasPlainValues names m → (line : Line) × Spells names words line
 
 abbrev pub FindsLine : List Text → List Text → Result ArgMatches WordsFault → Type 0
-FindsLine names words (Ok m) = Finds names words m
+FindsLine names words (Ok m) = ShowsLines names words m
 FindsLine names words (Err fault.Words) = (line : Line) → ¬ Spells names words line
 FindsLine names words (Err fault.Memory) = Unit {0}
 
@@ -68,10 +68,10 @@ FindsThree positionals (Some found) = positionals ≡ found.0.now ∷ found.1.no
 FindsThree positionals None = (a b c : Text) → positionals ≢ a ∷ b ∷ c ∷ []
 
 -- the one command of which P holds, or that there is none; want of memory is free
-abbrev pub Answers : (Command → Type 0) → Result Command WordsFault → Type 0
-Answers P (Ok c) = P c × ((d : Command) → P d → d ≡ c)
-Answers P (Err fault.Words) = (c : Command) → ¬ P c
-Answers P (Err fault.Memory) = Unit {0}
+abbrev pub FindsCommand : (Command → Type 0) → Result Command WordsFault → Type 0
+FindsCommand P (Ok c) = P c × ((d : Command) → P d → d ≡ c)
+FindsCommand P (Err fault.Words) = (c : Command) → ¬ P c
+FindsCommand P (Err fault.Memory) = Unit {0}
 
 -- a command with this command word, of what is found
 abbrev pub IsOf : Text → ArgMatches → Command → Type 0

@@ -3,7 +3,7 @@
 ghost use Rattle.std.specs.Prelude.{◌≡◌, [], ℕ, All, Contains, IfOk, IsErrOf, codes, drop};
 ghost use Rattle.std.specs.Str.{IsUtf8};
 ghost use Rattle.clap.specs.Walk.{texts};
-ghost use Rattle.spe_words.specs.Found.{Answers, IsAsked, IsOf, IsSpelledBy, kind_options, kind_word};
+ghost use Rattle.spe_words.specs.Found.{FindsCommand, IsAsked, IsOf, IsSpelledBy, kind_options, kind_word};
 ghost use Rattle.spe_words.specs.Grammar.{AskFor};
 
 use crate::command::{Command, WordsFault};
@@ -50,7 +50,7 @@ fn texts_of<'a>(alloc: Global, words: &'a [Text]) -> Result<Vec<&'a str>, WordsF
 // The command that words ask for, of which none is empty.
 fn command_of<'a>(alloc: Global, words: &'a [&'a str]) -> Result<Command, WordsFault>
     requires { All IsUtf8 (texts words.now) }
-    ensures { Answers (IsAsked (texts words.entry.now)) result }
+    ensures { FindsCommand (IsAsked (texts words.entry.now)) result }
 {
     let [word, ..] = words else {
         return Err(WordsFault::Words);
@@ -72,7 +72,7 @@ fn read_kind<'a>(
 ) -> Result<Command, WordsFault>
     requires utf8 { All IsUtf8 (texts words.now) }
     requires options { texts options.now ≡ kind_options kind }
-    ensures { Answers (IsSpelledBy (kind_word kind) (drop 1 (texts words.entry.now))) result }
+    ensures { FindsCommand (IsSpelledBy (kind_word kind) (drop 1 (texts words.entry.now))) result }
 {
     let found = match read_line(alloc, command, options, words) {
         Ok(found) => found,
@@ -89,7 +89,7 @@ fn read_kind<'a>(
 }
 
 fn rows(alloc: Global, found: &ArgMatches<'_>) -> Result<Command, WordsFault>
-    ensures { Answers (IsOf (codes "rows") found.now) result }
+    ensures { FindsCommand (IsOf (codes "rows") found.now) result }
 {
     match two(found) {
         Some((db, table)) => Ok(Command::Rows {
@@ -101,7 +101,7 @@ fn rows(alloc: Global, found: &ArgMatches<'_>) -> Result<Command, WordsFault>
 }
 
 fn check(alloc: Global, found: &ArgMatches<'_>) -> Result<Command, WordsFault>
-    ensures { Answers (IsOf (codes "check") found.now) result }
+    ensures { FindsCommand (IsOf (codes "check") found.now) result }
 {
     match one(found) {
         Some(db) => Ok(Command::Check {
@@ -112,7 +112,7 @@ fn check(alloc: Global, found: &ArgMatches<'_>) -> Result<Command, WordsFault>
 }
 
 fn prepare(alloc: Global, found: &ArgMatches<'_>) -> Result<Command, WordsFault>
-    ensures { Answers (IsOf (codes "prepare") found.now) result }
+    ensures { FindsCommand (IsOf (codes "prepare") found.now) result }
 {
     let Some((db, lists)) = two(found) else {
         return Err(WordsFault::Words);
@@ -127,7 +127,7 @@ fn prepare(alloc: Global, found: &ArgMatches<'_>) -> Result<Command, WordsFault>
 }
 
 fn release(alloc: Global, found: &ArgMatches<'_>) -> Result<Command, WordsFault>
-    ensures { Answers (IsOf (codes "release") found.now) result }
+    ensures { FindsCommand (IsOf (codes "release") found.now) result }
 {
     match one(found) {
         Some(db) => Ok(Command::Release {
@@ -138,7 +138,7 @@ fn release(alloc: Global, found: &ArgMatches<'_>) -> Result<Command, WordsFault>
 }
 
 fn run(alloc: Global, found: &ArgMatches<'_>) -> Result<Command, WordsFault>
-    ensures { Answers (IsOf (codes "run") found.now) result }
+    ensures { FindsCommand (IsOf (codes "run") found.now) result }
 {
     let Some((db, scripts)) = read_targets(found) else {
         return Err(WordsFault::Words);
@@ -156,7 +156,7 @@ fn run(alloc: Global, found: &ArgMatches<'_>) -> Result<Command, WordsFault>
 }
 
 fn work(alloc: Global, found: &ArgMatches<'_>) -> Result<Command, WordsFault>
-    ensures { Answers (IsOf (codes "work") found.now) result }
+    ensures { FindsCommand (IsOf (codes "work") found.now) result }
 {
     let Some((db, seed, count)) = three(found) else {
         return Err(WordsFault::Words);

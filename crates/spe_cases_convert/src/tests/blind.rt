@@ -39,6 +39,8 @@ impl Disk for Blind {
 
     ghost fresh = { λ b a. tt };
 
+    ghost whole = { λ b. tt };
+
     fn attach(&mut self, name: &str) -> Result<bool, Failed> {
         self.disk.attach(name)
     }

@@ -69,6 +69,8 @@ impl Disk for Watched {
 
     ghost fresh = { λ w a. w.disk.fresh a };
 
+    ghost whole = { λ w. w.disk.whole };
+
     fn attach(&mut self, name: &str) -> Result<bool, Failed> {
         self.disk.attach(name)
     }

@@ -24,7 +24,7 @@ returns-clause-laid g c = λ pages agrees ready held other.
     c.in_ok-run_behind.ensures ∙ ap (λ (k : ℤ). with_first (separator k page) (run_of c.one_child-last.result)) same ∙ ap (with_first (separator c.in_ok-low.field-0.key page)) c.one_child-last.ensures in
     halves_laid g.S.Pages c.shifts_law.ensures.both s a c.lay_halves.new.space pages page next c.usable-usable.result c.in_ok-low.field-0.key (run_of c.args.children)
     (record { cells = c.in_ok-low.field-0.low; right = c.in_ok-low.field-0.low_right }) (record { cells = c.in_ok-low.field-0.high; right = c.in_ok-low.field-0.high_right }) (run_of c.in_ok-run_behind.field-0)
-    c.usable-usable.ensures.value c.in_ok-low.ensures.halves first (c.in-Ok-lay_halves.ensures.laid pages agrees first.ready (first.held held) other) run_is
+    c.usable-usable.ensures.value c.in_ok-low.ensures.many c.in_ok-low.ensures.halves first (c.in-Ok-lay_halves.ensures.laid pages agrees first.ready (first.held held) other) run_is
 
 pub returns-clause-spares : goal.returns-clause-spares
 returns-clause-spares g c = λ pages agrees ready held other.

@@ -1,11 +1,11 @@
 use Rattle.std.proofs.Common.{◌≡◌, ◌∙◌, arith, sym, ap, subst}
 use Rattle.spe_slotrule.specs.declared.parts.StorePart.{StorePart}
 use Rattle.spe_slotrule.specs.Views.{store_part, session_part}
-use Rattle.spe_slotrule.specs.Known.{SessionFits}
+use Rattle.spe_slotrule.specs.Known.{SessionFits, IdsAreOutOnce}
 use Rattle.spe_slotrule.specs.May.{SessionTold, IsStill}
 use Rattle.spe_slots.specs.Seats.{SeatedStore}
 use Rattle.spe_slots.proofs.Own.{store_table}
-use Rattle.spe_slots.proofs.Joint.{joined, tells_session_at, told_session_at}
+use Rattle.spe_slots.proofs.Joint.{joined, tells_session_at, told_session_at, out_once_at}
 use Rattle.spe_slots.proofs.table.Slots.tell_session.Goals as goal
 
 pub load-found-requires : goal.load-found-requires
@@ -30,3 +30,12 @@ returns-clause-fits g c =
     subst (λ (s : StorePart g.row.E.Denot). SessionFits s p.number p) is
     (told_session_at c.self.inside.table.shared.table_id.slots 0 0 c.load-found.result c.take_in.new.seat.me c.load-found.new.seat.me g.W.Makes.after (store_part own.0) p
     (joined own c.args.session.now.me c.take_in.new.seat.me c.store.invariant.0 c.requires.session c.take_in.ensures.seat.1) c.load-found.ensures.2).2
+
+pub returns-clause-out : goal.returns-clause-out
+returns-clause-out g c =
+    let own = c.store.inside.seat.me in
+    let p = session_part c.args.session.now.me.0 in
+    let is : store_part own.0 ≡ c.args.store.now.part = ap (λ (v : SeatedStore g.row.E.Denot). v.part) c.store.view_is in
+    c.requires.told.out (subst (λ (s : StorePart g.row.E.Denot). IdsAreOutOnce s.out) is
+    (out_once_at c.self.inside.table.shared.table_id.slots 0 0 c.load-found.result c.take_in.new.seat.me c.load-found.new.seat.me g.W.Makes.after (store_part own.0) p
+    (joined own c.args.session.now.me c.take_in.new.seat.me c.store.invariant.0 c.requires.session c.take_in.ensures.seat.1) c.load-found.ensures.2))

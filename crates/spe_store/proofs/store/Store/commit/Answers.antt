@@ -1,9 +1,8 @@
-use Rattle.std.proofs.Common.{◌≡◌, ℕ, true, refl, subst, sym, ap, ◌∙◌, arith, List, ◌∷◌, length}
+use Rattle.std.proofs.Common.{◌≡◌, true, refl, subst, sym, ap, ◌∙◌, arith, List, length}
 use Rattle.spe_model.specs.Justified.{Justified}
 use Rattle.spe_model.specs.Rollback.{cut_of}
 use Rattle.spe_store.specs.Call.{CutsIf, HasCommitted, LeavesSeen, MayEnd}
 use Rattle.spe_store.specs.Event.{Event, entries_in, lives_in, open_in, seen_in, written_in}
-use Rattle.spe_store.specs.Event.Event.{Broken, Committed}
 use Rattle.spe_store.specs.Pass.{OthersStay, Pass}
 use Rattle.spe_store.specs.Served.{asked_of}
 use Rattle.spe_store.specs.Store.{IsStored, Store}

@@ -1,4 +1,4 @@
-use Rattle.std.proofs.Common.{◌≡◌, subst, sym, ◌∙◌, arith}
+use Rattle.std.proofs.Common.{subst, sym, ◌∙◌, arith}
 use Rattle.spe_model.specs.Rollback.{cut_of}
 use Rattle.spe_store.specs.Call.{CutsIf, IsUndone}
 use Rattle.spe_store.specs.Event.{open_in}

@@ -1,4 +1,4 @@
-use Rattle.std.proofs.Common.{refl, ◌≡◌, true, false, subst, sym, ap, ◌∙◌, ◌++◌, ◌∷◌, [], ◌+◌, length, arith, List, ℕ, Option, Some, inl, inr}
+use Rattle.std.proofs.Common.{refl, ◌≡◌, true, false, subst, sym, ap, ◌∙◌, ◌∷◌, [], ◌+◌, length, arith, List, ℕ, Option, Some, inl, inr}
 use Rattle.spe_model.specs.Journal.{record_bytes}
 use Rattle.spe_model.specs.declared.file.FileNo.TheVariants.{Journal}
 use Rattle.spe_model.specs.Big.{u32_at}
@@ -13,6 +13,7 @@ use Rattle.spe_store.specs.Call.{HasJournalled, MayJournal}
 use Rattle.spe_store.specs.declared.work.Work.{Work}
 use Rattle.spe_store.specs.Desk.{ReadsPage}
 use Rattle.spe_store.specs.Pass.{Pass}
+use Rattle.spe_store.specs.Saved.{Adds}
 use Rattle.spe_store.specs.Store.{IfTold, Store, pages_in}
 use Rattle.spe_store.proofs.HeldLemmas.{listed, looks_held}
 use Rattle.spe_store.proofs.ListLemmas.{carried, handed, read_at, same_read}
@@ -70,7 +71,7 @@ invariant_of-self-2 g c =
       own = ap (λ (v : Work). v.own) same;
       due = ap (λ (v : Work). v.due) same;
       out = ap (λ (v : Work). v.out) same;
-      saved = c.in-Ok-push.ensures.ok ∙ ap (λ (v : Work). v.saved ++ record { page = c.args.page; bytes = c.in-Ok.entry.old; changed = false } ∷ []) same;
+      saved = subst (λ (v : Work). Adds c.args.page c.in-Ok.entry.old v.saved c.add.new.self) same c.in-Ok-add.ensures.ok;
     })
     c.from-2.result c.from-2.ensures c.with-story.result.events (c.with-story.ensures ∙ ap (λ (b : List ℕ). Journalled c.pass.inside.id c.args.page b ∷ c.self.inside.story.events) c.as_slice.ensures)
 

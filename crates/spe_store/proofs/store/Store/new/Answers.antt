@@ -1,4 +1,4 @@
-use Rattle.std.proofs.Common.{◌≡◌, ◌∙◌, ◌+◌, ◌≤◌, ℕ, subst, sym, refl, ap, arith, List}
+use Rattle.std.proofs.Common.{◌∙◌, ◌+◌, ℕ, subst, sym, refl, ap, arith, List}
 use Rattle.spe_model.specs.declared.recovery.Recovered.{Recovered}
 use Rattle.spe_store.specs.Event.{Event}
 use Rattle.spe_store.specs.Store.{IsStored}

@@ -1,4 +1,4 @@
-use Rattle.std.proofs.Common.{◌≡◌, sym, ap, ◌∙◌, length}
+use Rattle.std.proofs.Common.{ap, ◌∙◌, length}
 use Rattle.spe_store.specs.Event.{entries_in}
 use Rattle.spe_store.specs.Store.{Store}
 use Rattle.spe_store.proofs.CommitLemmas.{rows_long}

@@ -1,4 +1,4 @@
-use Rattle.std.proofs.Common.{◌≡◌, false, subst, sym, []}
+use Rattle.std.proofs.Common.{◌≡◌, false, []}
 use Rattle.spe_store.specs.Event.{open_in}
 use Rattle.spe_store.specs.Pass.{Pass}
 use Rattle.spe_store.specs.Store.{Store}

@@ -1,9 +1,9 @@
-use Rattle.std.proofs.Common.{◌≡◌, refl, subst, sym, ap, ◌∙◌, arith, ℕ, Option, Some, None}
+use Rattle.std.proofs.Common.{refl, subst, sym, ◌∙◌, arith, Option}
 use Rattle.spe_model.specs.Trace.{History}
 use Rattle.spe_store.specs.Call.{GivesPage, IsInside, IsUnread, MayRead}
 use Rattle.spe_store.specs.Desk.{ReadsPage}
 use Rattle.spe_store.specs.Pass.{Pass}
-use Rattle.spe_store.specs.Store.{IfTold, Store}
+use Rattle.spe_store.specs.Store.{Store}
 use Rattle.spe_store.specs.declared.stop.StoreFault.TheVariants.{PageOut, ReadFault}
 use Rattle.spe_store.proofs.HeldLemmas.{looks_held}
 use Rattle.spe_store.proofs.ListLemmas.{carried, handed, read_at}

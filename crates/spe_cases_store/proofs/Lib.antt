@@ -1,0 +1,2 @@
+mod NoneServed
+mod Steps

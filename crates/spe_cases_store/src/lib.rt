@@ -1,0 +1,5 @@
+//! Tests of the store of transactions.
+#![tactic(auto)]
+
+#[cfg(test)]
+mod tests;

@@ -1,0 +1,4 @@
+mod begin;
+mod commit;
+mod disk;
+mod rows;
