@@ -1,2 +1,4 @@
 mod bytes;
+mod files;
 mod read;
+mod release;

@@ -13,7 +13,7 @@ use Rattle.spe_check.specs.Chains.{IsAlong, kept_of, link_marks}
 use Rattle.spe_check.specs.Tries.{Leads, Tries}
 use Rattle.spe_check.proofs.TriesLemmas.{leads_try, leads_halt, leads_last, the_ok, the_err}
 
-div_small : (n r : ℕ) → n < r → n / r ≡ 0
+pub div_small : (n r : ℕ) → n < r → n / r ≡ 0
 div_small n r less = let below = div_below n r 1 (omega (arith, less)) (omega (arith, less)) in omega (arith, below)
 
 div_fewer : (left r : ℕ) → 0 < r → 0 < left → (left - 1) / r ≡ ((left - r) + (r - 1)) / r

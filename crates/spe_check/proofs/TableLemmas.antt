@@ -1,13 +1,15 @@
-use Rattle.std.proofs.Common.{◌≡◌, ◌∙◌, ℕ, zero, suc, ◌+◌, ◌-◌, ◌<◌, ◌≤◌, ℤ, Bool, true, false, List, [], ◌∷◌, ◌++◌, refl, sym, ap, subst, arith, length}
+use Rattle.std.proofs.Common.{◌≡◌, ◌∙◌, ℕ, zero, suc, ◌+◌, ◌-◌, ◌<◌, ◌≤◌, ℤ, Bool, true, false, List, [], ◌∷◌, ◌++◌, refl, sym, ap, subst, arith, inl, inr, append-nil, length}
 use Rattle.std.proofs.lemmas.Result.{on_ok_weaker}
-use Rattle.std.specs.Prelude.{Result, Ok, Err, IfOk, OnOk, if◌then◌else◌}
+use Rattle.std.specs.Prelude.{Result, Ok, Err, IfOk, OnOk, ◌==◌, if◌then◌else◌}
+use Rattle.std.proofs.lemmas.Bool.{cases_lt}
 use Rattle.spe_model.specs.declared.page.Cell.{Cell}
 use Rattle.spe_model.specs.declared.page.PageCells.{PageCells}
 use Rattle.spe_model.specs.Kind.{is_leaf}
 use Rattle.spe_model.specs.Paging.{Paging}
-use Rattle.spe_model.specs.Tree.{node_at, node_cells, node_right, cells_in, right_in, payload_of, rank}
+use Rattle.spe_model.specs.Chain.{links, links_bytes}
+use Rattle.spe_model.specs.Tree.{node_at, node_cells, node_right, cells_in, right_in, payload_of, rank, rest_of}
 use Rattle.spe_model.specs.Verdict.{LeafRow}
-use Rattle.spe_model.specs.Walk.{Mark, Keeps, RowMarks, cell_chain, fan_marks, fan_rows, has_kind, is_leaf_page, is_within_bounds, leaf_marks, leaf_rows, table_marks, walk_rows}
+use Rattle.spe_model.specs.Walk.{Mark, Keeps, RowMarks, cell_chain, chain_marks, fan_marks, fan_rows, has_kind, is_leaf_page, is_within_bounds, leaf_marks, leaf_rows, table_marks, walk_rows}
 use Rattle.spe_check.specs.declared.met.Met.{Met}
 use Rattle.spe_check.specs.declared.halt.Halt.{Halt}
 use Rattle.spe_check.specs.declared.visitor.RowVisitor as visitors
@@ -17,6 +19,7 @@ use Rattle.spe_check.specs.Pages.{behind_read, place_marks, read_marks}
 use Rattle.spe_check.specs.TableTree.{IsRowed, VisitsRow, row_marks, row_of}
 use Rattle.spe_check.specs.Tries.{Leads, Tries}
 use Rattle.spe_check.specs.Visitor.{Outlook}
+use Rattle.spe_check.proofs.ChainLemmas.{div_small}
 use Rattle.spe_check.proofs.PageLemmas.{kind_marks, misplaced, placed_are}
 use Rattle.spe_check.proofs.TriesLemmas.{leads_try, leads_halt, tries_halt, tries_then, the_ok, the_err}
 
@@ -93,9 +96,25 @@ pub leaf_cons : (own : RowMarks) (usable : ℕ) (pages : Paging) (page low high 
 leaf_cons own usable pages page low high c cs = refl
 
 -- a payload that is wanted is the bytes in its page and those of its chain
-pub payload_taken : (wanted : Bool) (new old given local bytes : List ℕ) → given ≡ local → old ≡ kept_of wanted [] given → new ≡ kept_of wanted old bytes → wanted ≡ true → new ≡ local ++ bytes
-payload_taken true new old given local bytes same first kept is = kept ∙ ap (λ o. o ++ bytes) (first ∙ same)
-payload_taken false new old given local bytes same first kept is = absurd cc
+pub payload_taken : (wanted : Bool) (new old local bytes : List ℕ) → old ≡ kept_of wanted [] local → new ≡ kept_of wanted old bytes → wanted ≡ true → new ≡ local ++ bytes
+payload_taken true new old local bytes first kept is = kept ∙ ap (λ o. o ++ bytes) first
+payload_taken false new old local bytes first kept is = absurd cc
+
+-- no bytes take no pages
+links_zero : (usable : ℕ) → links usable 0 ≡ 0
+unfolding links
+links_zero usable = elim (cases_lt 4 usable) [
+  | inl room ↦ div_small (0 + (usable - 4 - 1)) (usable - 4) (omega (arith, room))
+  | inr none ↦ let small : usable - 4 ≡ 0 = omega (arith, none) in rw small refl
+]
+
+-- a cell whose whole payload stands in its page has no chain
+pub local_chain : (usable : ℕ) (pages : Paging) (page : ℕ) (c : Cell) → rest_of c ≡ 0 → cell_chain usable pages page c ≡ Keeps page 7 (c.chain == 0) ∷ []
+local_chain usable pages page c none = ap (λ (n : ℕ). chain_marks pages n page c.chain) (ap (links usable) none ∙ links_zero usable)
+
+pub local_payload : (usable : ℕ) (pages : Paging) (c : Cell) → rest_of c ≡ 0 → payload_of usable pages c ≡ c.local
+local_payload usable pages c none =
+    ap (λ (n : ℕ). c.local ++ links_bytes usable pages n (rest_of c) c.chain) (ap (links usable) none ∙ links_zero usable) ∙ append-nil c.local
 
 -- a row is visited where it is wanted
 pub visits_same : {V : Type 0} (v : visitors.Ghosts V) (visitor after : V) (page : ℕ) (key other : ℤ) (bytes : List ℕ) (r : Result (Unit {0}) Halt) → key ≡ other → v.wanted visitor ≡ true
@@ -191,6 +210,11 @@ rows_rest v usable pages before now visitor outlook later all page low bound hig
     let P : List Cell → Type 0 = λ cs. IsRowed v usable pages before now visitor outlook later all page low high cs in
     let Q : ℕ → Type 0 = λ n. IsRowed v usable pages before now visitor outlook later all page n high other in
     subst Q from (subst P same rowed)
+
+-- no cell is left
+pub none_left : (left : List Cell) → left ≡ [] → length left < 1
+none_left [] none = omega arith
+none_left (c ∷ cs) none = absurd cc
 
 -- no row is left
 pub rows_end : {V : Type 0} (v : visitors.Ghosts V) (usable : ℕ) (pages : Paging) (before now : Met) (visitor : V) (outlook : Outlook) (later : List LeafRow) (all : List Mark) (page low high level : ℕ) (left : List Cell) → length left < 1

@@ -51,6 +51,13 @@ TakesPayload g late before after page c wanted bytes result =
     Each g late (λ usable pages. Tries before.pages (has_met before) (has_met after) (cell_chain usable pages page c) result
     × OnOk result (wanted ≡ true → bytes ≡ payload_of usable pages c))
 
+-- what is tried of a row behind its bound, where its whole payload stands in its page
+abbrev pub TriesLocal : {V X : Type 0} (v : visitors.Ghosts V) (old new : V) (page : ℕ) → Cell → Result X Halt → Type 0
+TriesLocal v old new page c result =
+    (count : ℕ) (met : ℕ → Bool) (usable : ℕ) (pages : Paging) (later : List LeafRow) → v.floor old ≤ rank c.key
+    → Tries count met met (cell_chain usable pages page c ++ (v.outlook old (row_of usable pages page c ∷ later)).marks page c.key (payload_of usable pages c)) result
+    × OnOk result (v.outlook new later ≡ v.outlook old (row_of usable pages page c ∷ later))
+
 abbrev pub TriesRow : {P V X : Type 0} (g : Ghosts P) (v : visitors.Ghosts V) (late : P) (before after : Met) (old new : V) (page low high : ℕ) → Cell → Result X Halt → Type 0
 TriesRow g v late before after old new page low high c result =
     Each g late (λ usable pages. (later : List LeafRow) → v.floor old ≤ low

@@ -36,8 +36,8 @@ fn try_some(holder: u32, page: u32) -> Result<(), Halt>
     Ok(())
 }
 
-// Whether none follows where none may.
-fn try_none(holder: u32, page: u32) -> Result<(), Halt>
+/// Whether none follows where none may.
+pub fn try_none(holder: u32, page: u32) -> Result<(), Halt>
     ensures tried { (count : ℕ) (met : ℕ → Bool) → Tries count met met (Keeps holder 7 (page == 0) ∷ []) result }
     ensures broken { IfErr result IsBroken }
 {

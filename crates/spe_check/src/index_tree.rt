@@ -8,7 +8,7 @@ ghost use Rattle.spe_check.specs.Shown.{Walked, RefusesHalt, AsksWithin};
 use crate::chain::try_chain;
 use crate::halt::Halt;
 use crate::met::Met;
-use crate::page::{is_leaf, read_met, try_place};
+use crate::page::{copy_met, is_leaf, try_place};
 use spe_model::{Cell, PageCells};
 use spe_space::Pages;
 use std::alloc::Global;
@@ -130,7 +130,7 @@ pub fn walk_index<S: Pages>(
     ensures refusal { RefusesHalt S.Pages space.old space.new result }
     ensures asks { AsksWithin met.old result }
 {
-    let node = match read_met(alloc, space, met, holder, page, buf) {
+    let node = match copy_met(alloc, space, met, holder, page, buf) {
         Ok(node) => node,
         Err(halt) => return Err(halt),
     };

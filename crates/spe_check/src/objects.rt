@@ -18,6 +18,7 @@ use crate::record_rows::{NoRows, RecordRows};
 use crate::schema_rows::Placed;
 use crate::table_tree::walk_table_from;
 use spe_catalog::{Attached, SchemaRow, table_of};
+use spe_format::LegalPage;
 use spe_model::PageCells;
 use spe_space::Pages;
 use std::alloc::{AllocError, Global};
@@ -102,7 +103,7 @@ fn try_closed<S: Pages>(
     space: &mut S,
     met: &mut Met,
     root: u32,
-    node: &PageCells,
+    node: &LegalPage<'_>,
     buf: &mut [u8],
 ) -> Result<u64, Halt>
     requires { length buf.old ≡ S.Pages.size space.old }
@@ -139,7 +140,7 @@ fn try_open<S: Pages>(
     met: &mut Met,
     columns: usize,
     root: u32,
-    node: &PageCells,
+    node: &LegalPage<'_>,
     buf: &mut [u8],
 ) -> Result<u64, Halt>
     requires { length buf.old ≡ S.Pages.size space.old }
@@ -179,7 +180,7 @@ fn try_tree<S: Pages>(
     attached: &Attached,
     row: &SchemaRow,
     root: u32,
-    node: &PageCells,
+    node: &LegalPage<'_>,
     buf: &mut [u8],
 ) -> Result<u64, Halt>
     requires { length buf.old ≡ S.Pages.size space.old }
@@ -188,8 +189,9 @@ fn try_tree<S: Pages>(
     ensures refusal { RefusesHalt S.Pages space.old space.new result }
     ensures asks { AsksWithin met.old result }
 {
-    if !is_table(node.kind) {
-        return try_index(alloc, space, met, root, node, buf);
+    if !is_table(node.kind()) {
+        let cells = node.copied(alloc)?;
+        return try_index(alloc, space, met, root, &cells, buf);
     }
     match open_columns(alloc, attached, row)? {
         Some(columns) => try_open(alloc, space, met, columns, root, node, buf),
@@ -224,7 +226,8 @@ fn try_object<S: Pages>(
     if root == 0 {
         return Ok(0);
     }
-    let node = match read_met(alloc, space, met, leaf, root, buf) {
+    let mut own = vec![in alloc; 0u8; space.page_size() as usize]?;
+    let node = match read_met(alloc, space, met, leaf, root, own.as_mut_slice()) {
         Ok(node) => node,
         Err(halt) => return Err(halt),
     };

@@ -11,7 +11,7 @@ ghost use Rattle.spe_check.specs.Tries.{IsBroken};
 use crate::halt::Halt;
 use crate::met::Met;
 use crate::rule::try_rule;
-use spe_format::read_page;
+use spe_format::LegalPage;
 use spe_model::{Kind, PageCells, PageFault};
 use spe_space::{Pages, SpaceFault};
 use std::alloc::Global;
@@ -87,37 +87,37 @@ fn halt_of(fault: PageFault, page: u32) -> Halt
 }
 
 // What the bytes of a page hold.
-fn node_in(
+fn node_in<'b>(
     alloc: Global,
-    bytes: &[u8],
+    bytes: &'b [u8],
     at: usize,
     usable: usize,
     page: u32,
-) -> Result<PageCells, Halt>
+) -> Result<LegalPage<'b>, Halt>
     requires at { (at ≡ 0) ⊎ (at ≡ 100) }
     requires low { 480 ≤ usable }
     requires high { usable ≤ 65536 }
     requires inside { usable ≤ length bytes.now }
     ensures { IsReading page (page_at (take usable bytes.now) at) result }
 {
-    match read_page(alloc, bytes, at, usable) {
+    match LegalPage::new(alloc, bytes, at, usable) {
         Ok(node) => Ok(node),
         Err(fault) => Err(halt_of(fault, page)),
     }
 }
 
 /// Meets a page, whose number stands on the page `holder`, and reads what it holds. `buf` is one page
-/// long.
+/// long, and lends the page's cells.
 ///
 /// Broken is rule 1 or 2 as for any page that is met, and rule 3 where the page is not of the format.
-pub fn read_met<S: Pages>(
+pub fn read_met<'b, S: Pages>(
     alloc: Global,
     space: &mut S,
     met: &mut Met,
     holder: u32,
     page: u32,
-    buf: &mut [u8],
-) -> Result<PageCells, Halt>
+    buf: &'b mut [u8],
+) -> Result<LegalPage<'b>, Halt>
     requires { length buf.old ≡ S.Pages.size space.old }
     ensures tried { TriesRead S.Pages space.new met.old met.new holder page result }
     ensures sort { TellsSort S.Pages space.new page result }
@@ -132,4 +132,26 @@ pub fn read_met<S: Pages>(
     let usable = space.usable() as usize;
     space.get(page, buf)?;
     node_in(alloc, buf, header_of(page), usable, page)
+}
+
+/// The same with copies of the page's cells.
+pub fn copy_met<S: Pages>(
+    alloc: Global,
+    space: &mut S,
+    met: &mut Met,
+    holder: u32,
+    page: u32,
+    buf: &mut [u8],
+) -> Result<PageCells, Halt>
+    requires { length buf.old ≡ S.Pages.size space.old }
+    ensures tried { TriesRead S.Pages space.new met.old met.new holder page result }
+    ensures sort { TellsSort S.Pages space.new page result }
+    ensures walked { Walked S.Pages space.old space.new met.old met.new }
+    ensures refusal { RefusesHalt S.Pages space.old space.new result }
+    ensures asks { AsksWithin met.old result }
+{
+    match read_met(alloc, space, met, holder, page, buf) {
+        Ok(node) => Ok(node.copied(alloc)?),
+        Err(halt) => Err(halt),
+    }
 }

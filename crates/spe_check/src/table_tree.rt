@@ -1,22 +1,25 @@
 //! Trees of tables.
 
 ghost use Rattle.std.specs.Prelude.{◌≡◌, ◌≤◌, ◌<◌, ◌+◌, ℕ, Bool, true, nat_le, nat_lt, [], ◌∷◌, IfOk, IfErr, OnOk, length};
-ghost use Rattle.spe_model.specs.Tree.{rank};
+ghost use Rattle.spe_format.specs.View.{cell_seen};
+ghost use Rattle.spe_model.specs.Tree.{rank, rest_of};
+ghost use Rattle.spe_model.specs.Kind.{is_leaf};
 ghost use Rattle.spe_model.specs.Walk.{Mark, Keeps, is_within_bounds};
 ghost use Rattle.spe_check.specs.Chains.{kept_of};
+ghost use Rattle.spe_check.specs.Pages.{TriesPlace};
 ghost use Rattle.spe_check.specs.Shown.{Walked, RefusesHalt, AsksWithin};
-ghost use Rattle.spe_check.specs.TableTree.{low_of, high_of, Rises, VisitsRow, TakesPayload, TriesRow, TriesRows, TriesTable, TriesTableFrom};
+ghost use Rattle.spe_check.specs.TableTree.{low_of, high_of, Rises, VisitsRow, TakesPayload, TriesLocal, TriesRow, TriesRows, TriesTable, TriesTableFrom};
 ghost use Rattle.spe_check.specs.Tries.{IsBroken, Tries};
 ghost use Rattle.spe_check.specs.Visitor.{IsOwn};
 
-use crate::chain::try_chain;
+use crate::chain::{try_chain, try_none};
 use crate::halt::Halt;
-use crate::index_tree::{level_of, rest_in};
+use crate::index_tree::level_of;
 use crate::met::Met;
 use crate::page::{is_leaf, read_met, try_place};
 use crate::rule::try_rule;
 use crate::visitor::RowVisitor;
-use spe_model::{Cell, PageCells};
+use spe_format::{LegalPage, Parts};
 use spe_space::Pages;
 use std::alloc::{AllocError, Global};
 
@@ -40,20 +43,20 @@ fn is_up_to(high: Option<i64>, key: i64) -> bool
     }
 }
 
-fn is_within(low: Option<i64>, high: Option<i64>, cell: &Cell) -> bool
-    ensures { result ≡ is_within_bounds (low_of low) (high_of high) cell.now }
+fn is_within(low: Option<i64>, high: Option<i64>, parts: &Parts<'_>) -> bool
+    ensures { result ≡ is_within_bounds (low_of low) (high_of high) (cell_seen parts.now) }
 {
-    is_above(low, cell.key) && is_up_to(high, cell.key)
+    is_above(low, parts.key) && is_up_to(high, parts.key)
 }
 
 // Tries whether the key of a cell lies between two keys: above one, and at most the other.
-fn try_bound(low: Option<i64>, high: Option<i64>, page: u32, cell: &Cell) -> Result<(), Halt>
-    ensures tried { (count : ℕ) (met : ℕ → Bool) → Tries count met met (Keeps page 6 (is_within_bounds (low_of low) (high_of high) cell.now) ∷ []) result }
-    ensures above { OnOk result (low_of low ≤ rank cell.now.key) }
-    ensures below { OnOk result (rank cell.now.key < high_of high) }
+fn try_bound(low: Option<i64>, high: Option<i64>, page: u32, parts: &Parts<'_>) -> Result<(), Halt>
+    ensures tried { (count : ℕ) (met : ℕ → Bool) → Tries count met met (Keeps page 6 (is_within_bounds (low_of low) (high_of high) (cell_seen parts.now)) ∷ []) result }
+    ensures above { OnOk result (low_of low ≤ rank parts.now.key) }
+    ensures below { OnOk result (rank parts.now.key < high_of high) }
     ensures broken { IfErr result IsBroken }
 {
-    try_rule(is_within(low, high, cell), page, 6)
+    try_rule(is_within(low, high, parts), page, 6)
 }
 
 // Begins a payload anew with the bytes in its page, where they are wanted.
@@ -67,29 +70,36 @@ fn begin(wanted: bool, local: &[u8], payload: &mut Vec<u8>) -> Result<(), AllocE
     Ok(())
 }
 
+// How many bytes of a cell's payload stand in its chain.
+fn rest_in(parts: &Parts<'_>) -> u64
+    ensures { result ≡ rest_of (cell_seen parts.now) }
+{
+    parts.payload.saturating_sub(parts.local.len() as u64)
+}
+
 // Tries the chain of a cell, and takes the cell's payload where it is wanted.
 fn take_payload<S: Pages>(
     space: &mut S,
     met: &mut Met,
     page: u32,
-    cell: &Cell,
+    parts: &Parts<'_>,
     wanted: bool,
     buf: &mut [u8],
     payload: &mut Vec<u8>,
 ) -> Result<(), Halt>
     requires { length buf.old ≡ S.Pages.size space.old }
-    ensures tried { TakesPayload S.Pages space.new met.old met.new page cell.now wanted payload.new.items result }
+    ensures tried { TakesPayload S.Pages space.new met.old met.new page (cell_seen parts.now) wanted payload.new.items result }
     ensures walked { Walked S.Pages space.old space.new met.old met.new }
     ensures refusal { RefusesHalt S.Pages space.old space.new result }
     ensures asks { AsksWithin met.old result }
 {
-    begin(wanted, cell.local.as_slice(), payload)?;
+    begin(wanted, parts.local, payload)?;
     try_chain(
         space,
         met,
         page,
-        cell.chain,
-        rest_in(cell),
+        parts.chain,
+        rest_in(parts),
         wanted,
         buf,
         payload,
@@ -100,18 +110,40 @@ fn take_payload<S: Pages>(
 fn visit_row<V: RowVisitor>(
     visitor: &mut V,
     page: u32,
-    cell: &Cell,
+    parts: &Parts<'_>,
     payload: &[u8],
 ) -> Result<(), Halt>
-    ensures tried { VisitsRow V.RowVisitor visitor.old visitor.new page cell.now.key payload.now result }
-    ensures above { Rises V.RowVisitor visitor.old visitor.new (rank cell.now.key) (rank cell.now.key + 1) result }
+    ensures tried { VisitsRow V.RowVisitor visitor.old visitor.new page parts.now.key payload.now result }
+    ensures above { Rises V.RowVisitor visitor.old visitor.new (rank parts.now.key) (rank parts.now.key + 1) result }
     ensures own { IfErr result IsOwn }
     ensures wanted { V.RowVisitor.wanted visitor.new ≡ V.RowVisitor.wanted visitor.old }
 {
     if visitor.wants() {
-        return visitor.visit(page, cell.key, payload);
+        return visitor.visit(page, parts.key, payload);
     }
     Ok(())
+}
+
+// Whether the whole payload of a cell stands in its page.
+fn is_local(parts: &Parts<'_>) -> bool
+    ensures { result ≡ true → rest_of (cell_seen parts.now) ≡ 0 }
+{
+    rest_in(parts) == 0
+}
+
+// Tries what is behind the bound of a row whose whole payload stands in its page, which is not copied.
+fn try_local<V: RowVisitor>(visitor: &mut V, page: u32, parts: &Parts<'_>) -> Result<(), Halt>
+    requires { rest_of (cell_seen parts.now) ≡ 0 }
+    ensures tried { TriesLocal V.RowVisitor visitor.old visitor.new page (cell_seen parts.now) result }
+    ensures above { Rises V.RowVisitor visitor.old visitor.new (rank parts.now.key) (rank parts.now.key + 1) result }
+    ensures own { IfErr result IsOwn }
+    ensures wanted { V.RowVisitor.wanted visitor.new ≡ V.RowVisitor.wanted visitor.old }
+{
+    match try_none(page, parts.chain) {
+        Ok(()) => (),
+        Err(halt) => return Err(halt),
+    }
+    visit_row(visitor, page, parts, parts.local)
 }
 
 // Tries a row of a leaf: its bound, its chain, and what the visitor tries of it.
@@ -122,37 +154,40 @@ fn try_row<S: Pages, V: RowVisitor>(
     low: Option<i64>,
     high: Option<i64>,
     page: u32,
-    cell: &Cell,
+    parts: &Parts<'_>,
     buf: &mut [u8],
     payload: &mut Vec<u8>,
 ) -> Result<(), Halt>
     requires { length buf.old ≡ S.Pages.size space.old }
-    ensures tried { TriesRow S.Pages V.RowVisitor space.new met.old met.new visitor.old visitor.new page (low_of low) (high_of high) cell.now result }
-    ensures above { OnOk result (low_of low ≤ rank cell.now.key) }
-    ensures below { OnOk result (rank cell.now.key < high_of high) }
-    ensures rises { Rises V.RowVisitor visitor.old visitor.new (low_of low) (rank cell.now.key + 1) result }
+    ensures tried { TriesRow S.Pages V.RowVisitor space.new met.old met.new visitor.old visitor.new page (low_of low) (high_of high) (cell_seen parts.now) result }
+    ensures above { OnOk result (low_of low ≤ rank parts.now.key) }
+    ensures below { OnOk result (rank parts.now.key < high_of high) }
+    ensures rises { Rises V.RowVisitor visitor.old visitor.new (low_of low) (rank parts.now.key + 1) result }
     ensures wanted { V.RowVisitor.wanted visitor.new ≡ V.RowVisitor.wanted visitor.old }
     ensures walked { Walked S.Pages space.old space.new met.old met.new }
     ensures refusal { RefusesHalt S.Pages space.old space.new result }
     ensures asks { AsksWithin met.old result }
 {
-    match try_bound(low, high, page, cell) {
+    match try_bound(low, high, page, parts) {
         Ok(()) => (),
         Err(halt) => return Err(halt),
+    }
+    if is_local(parts) {
+        return try_local(visitor, page, parts);
     }
     let wanted = visitor.wants();
-    match take_payload(space, met, page, cell, wanted, buf, payload) {
+    match take_payload(space, met, page, parts, wanted, buf, payload) {
         Ok(()) => (),
         Err(halt) => return Err(halt),
     }
-    visit_row(visitor, page, cell, payload.as_slice())
+    visit_row(visitor, page, parts, payload.as_slice())
 }
 
-fn key_of(cell: &Cell) -> Option<i64>
-    ensures low { low_of result ≡ rank cell.now.key + 1 }
-    ensures high { high_of result ≡ rank cell.now.key + 1 }
+fn key_of(parts: &Parts<'_>) -> Option<i64>
+    ensures low { low_of result ≡ rank parts.now.key + 1 }
+    ensures high { high_of result ≡ rank parts.now.key + 1 }
 {
-    Some(cell.key)
+    Some(parts.key)
 }
 
 // Tries the rows of a leaf, at which so many levels are left.
@@ -164,12 +199,12 @@ fn try_rows<S: Pages, V: RowVisitor>(
     low: Option<i64>,
     high: Option<i64>,
     page: u32,
-    cells: &[Cell],
+    node: &LegalPage<'_>,
     buf: &mut [u8],
     payload: &mut Vec<u8>,
 ) -> Result<u32, Halt>
     requires { length buf.old ≡ S.Pages.size space.old }
-    ensures tried { TriesRows S.Pages V.RowVisitor space.new met.old met.new visitor.old visitor.new page (low_of low) (high_of high) cells.now result }
+    ensures tried { TriesRows S.Pages V.RowVisitor space.new met.old met.new visitor.old visitor.new page (low_of low) (high_of high) node.now.cells result }
     ensures level { IfOk result (λ level. level ≡ levels) }
     ensures rises { Rises V.RowVisitor visitor.old visitor.new (low_of low) (high_of high) result }
     ensures wanted { V.RowVisitor.wanted visitor.new ≡ V.RowVisitor.wanted visitor.old }
@@ -178,16 +213,31 @@ fn try_rows<S: Pages, V: RowVisitor>(
     ensures asks { AsksWithin met.old result }
 {
     let mut above = low;
-    let mut left = cells;
-    'rows: while let [cell, rest @ ..] = left {
-        match try_row(space, met, visitor, above, high, page, cell, buf, payload) {
+    let mut index = 0;
+    'rows: while let Some(parts) = node.cell(index) {
+        match try_row(space, met, visitor, above, high, page, &parts, buf, payload) {
             Ok(()) => (),
             Err(halt) => return Err(halt),
         }
-        above = key_of(cell);
-        left = rest;
+        above = key_of(&parts);
+        index += 1;
     }
     Ok(levels)
+}
+
+// Tries the rules of the kind of a page and of its place.
+fn try_node(leaf: Option<u32>, levels: u32, page: u32, node: &LegalPage<'_>) -> Result<(), Halt>
+    ensures tried { TriesPlace true leaf levels page node.now.kind result }
+    ensures some { OnOk result (0 < levels) }
+    ensures broken { IfErr result IsBroken }
+{
+    try_place(true, leaf, levels, page, node.kind())
+}
+
+fn has_rows(node: &LegalPage<'_>) -> bool
+    ensures { result ≡ is_leaf node.now.kind }
+{
+    is_leaf(node.kind())
 }
 
 /// Tries the tree of a table with its rows from the page `page` on, whose number stands on the page
@@ -195,8 +245,9 @@ fn try_rows<S: Pages, V: RowVisitor>(
 ///
 /// So many levels are left, the page among them; `leaf` says how many were left at the first leaf of
 /// the whole tree, where one was met. All keys are to be above `low` and at most `high`, the parents'
-/// nearest keys on either side. `buf` is one page long, and `payload` takes the payload
-/// of one row after the other. Each page is got once, and the visitor gets the rows in their order.
+/// nearest keys on either side. `buf` is one page long and takes the pages of chains, and `payload`
+/// the payload of one row with a chain after the other. Each page is got once, into a buffer of its
+/// own that is freed behind it, and the visitor gets the rows in their order.
 #[cycle(table)]
 pub fn walk_table<S: Pages, V: RowVisitor>(
     alloc: Global,
@@ -220,7 +271,8 @@ pub fn walk_table<S: Pages, V: RowVisitor>(
     ensures refusal { RefusesHalt S.Pages space.old space.new result }
     ensures asks { AsksWithin met.old result }
 {
-    let node = match read_met(alloc, space, met, holder, page, buf) {
+    let mut own = vec![in alloc; 0u8; space.page_size() as usize]?;
+    let node = match read_met(alloc, space, met, holder, page, own.as_mut_slice()) {
         Ok(node) => node,
         Err(halt) => return Err(halt),
     };
@@ -242,7 +294,7 @@ pub fn walk_table_from<S: Pages, V: RowVisitor>(
     low: Option<i64>,
     high: Option<i64>,
     page: u32,
-    node: &PageCells,
+    node: &LegalPage<'_>,
     buf: &mut [u8],
     payload: &mut Vec<u8>,
 ) -> Result<u32, Halt>
@@ -254,38 +306,37 @@ pub fn walk_table_from<S: Pages, V: RowVisitor>(
     ensures refusal { RefusesHalt S.Pages space.old space.new result }
     ensures asks { AsksWithin met.old result }
 {
-    match try_place(true, leaf, levels, page, node.kind) {
+    match try_node(leaf, levels, page, node) {
         Ok(()) => (),
         Err(halt) => return Err(halt),
     }
-    if is_leaf(node.kind) {
+    if has_rows(node) {
         let level = level_of(leaf, levels);
-        let cells = node.cells.as_slice();
         return try_rows(
-            space, met, visitor, level, low, high, page, cells, buf, payload,
+            space, met, visitor, level, low, high, page, node, buf, payload,
         );
     }
     let fewer = levels - 1;
-    let right = node.right;
     let mut stand = leaf;
     let mut above = low;
-    let mut left = node.cells.as_slice();
-    'children: while let [cell, rest @ ..] = left {
-        let key = key_of(cell);
-        let child = cell.left;
+    let mut index = 0;
+    'children: while let Some(parts) = node.cell(index) {
+        let key = key_of(&parts);
+        let child = parts.left;
         match walk_table(
             alloc, space, met, visitor, stand, fewer, above, key, page, child, buf, payload,
         ) {
             Ok(level) => stand = Some(level),
             Err(halt) => return Err(halt),
         }
-        match try_bound(above, high, page, cell) {
+        match try_bound(above, high, page, &parts) {
             Ok(()) => (),
             Err(halt) => return Err(halt),
         }
         above = key;
-        left = rest;
+        index += 1;
     }
+    let right = node.right();
     walk_table(
         alloc, space, met, visitor, stand, fewer, above, high, page, right, buf, payload,
     )

@@ -17,7 +17,7 @@ use Rattle.spe_frame.proofs.TimesLemmas.{Each, each_from_holds, each_left, each_
 use Rattle.spe_rewrite.specs.Changes.{changed}
 use Rattle.spe_convert.specs.Changes.{counted_changes, counted_page}
 use Rattle.spe_convert.specs.Laws.{CountKeeps}
-use Rattle.spe_convert.proofs.StayLemmas.{FreeChange, stays}
+use Rattle.spe_convert.proofs.StayLemmas.{FreeChange, sort_kept, stays}
 use Rattle.spe_convert.proofs.TrunkLemmas.{IsSmall, drop_number, one_at}
 use Rattle.spe_convert.proofs.FrontLemmas.{FrontIs}
 use Rattle.spe_convert.proofs.LaidLemmas.{front_counts, listed_apart, not_laid, small_count}
@@ -160,7 +160,8 @@ count_keeps size usable count pages db free with =
     let holds : HoldsOf (λ n. new n ≡ pages n) with.stands.listed = λ n some. kept n
     (λ (e : n ≡ 1). let z = ap (λ (m : ℕ). times m with.stands.listed) e in let l = apart.lacks in absurd (omega (arith, some, z, l))) in
     let change : FreeChange count count pages new with.stands.listed with.stands.listed [] = record {
-      bytes = λ n inside other lacks. kept n other;
+      bytes = λ n low inside other lacks. kept n other;
+      sort = sort_kept pages new (kept 0 (λ (e : 0 ≡ 1). absurd (omega (arith, e))));
       front = is.alike;
       same = λ n. let a = times-append n with.stands.listed [] in omega (arith, a);
       single = λ n. omega arith;

@@ -6,11 +6,12 @@ use Rattle.std.proofs.lemmas.Bool.{cases_Bool, ltb-true}
 use Rattle.std.proofs.lemmas.List.{length-append}
 use Rattle.spe_frame.specs.Times.{times}
 use Rattle.spe_frame.proofs.TimesLemmas.{Each, times-append}
+use Rattle.spe_convert.specs.Made.{heads}
 use Rattle.spe_convert.specs.Trunk.{Trunk, bare, emptied, freed, made, pages_of, taking, with_leaf}
 use Rattle.spe_convert.specs.Dealt.{dealt, freed_at, made_at, made_of}
 use Rattle.spe_convert.proofs.TrunkLemmas.{AreLinked, EachTrunk, IsSmall, all_of, each_trunk_left, each_trunk_right}
 use Rattle.std.proofs.Math.Nat.{mod-lt}
-use Rattle.spe_convert.proofs.ListLemmas.{each_append, heads, trunk_append}
+use Rattle.spe_convert.proofs.ListLemmas.{each_append, trunk_append}
 use Rattle.spe_convert.proofs.ChainLemmas.{Fits}
 
 -- the trunks behind each first trunk, by list

@@ -102,6 +102,34 @@ legal_again old new header legal long same whole =
 pub parts_valid : (pages change copy : ℕ) → 1 ≤ pages → change ≡ copy → (not (pages == 0) && (change == copy)) ≡ true
 parts_valid pages change copy some same = rw (ne_eqb pages 0 (λ (e : pages ≡ 0). absurd (omega (arith, e, some))), eq-eqb change copy same) refl
 
+pub front_long : (count first free : ℕ) (old : List ℕ) → 100 ≤ length old → length (front_page count first free old) ≡ length old
+unfolding front_page
+front_long count first free old long =
+    let x = (u32_at old 24 + 1) % 2 ^ 32 in
+    let a = take 24 old in
+    let r = big_bytes 4 x in
+    let c = big_bytes 4 count in
+    let f = big_bytes 4 first in
+    let n = big_bytes 4 free in
+    let m = take 52 (drop 40 old) in
+    let d = drop 96 old in
+    let rest : length (drop 40 old) ≡ length old - 40 = length-drop 40 old in
+    let la : length a ≡ 24 = length-take-le 24 old (omega (arith, long)) in
+    let lm : length m ≡ 52 = length-take-le 52 (drop 40 old) (omega (arith, rest, long)) in
+    let ld : length d ≡ length old - 96 = length-drop 96 old in
+    let lr = length-bytes_high_first 4 x in
+    let lc = length-bytes_high_first 4 count in
+    let lf = length-bytes_high_first 4 first in
+    let ln = length-bytes_high_first 4 free in
+    let l1 = length-append a r in
+    let l2 = length-append (a ++ r) c in
+    let l3 = length-append (a ++ r ++ c) f in
+    let l4 = length-append (a ++ r ++ c ++ f) n in
+    let l5 = length-append (a ++ r ++ c ++ f ++ n) m in
+    let l6 = length-append (a ++ r ++ c ++ f ++ n ++ m) r in
+    let l7 = length-append (a ++ r ++ c ++ f ++ n ++ m ++ r) d in
+    omega (arith, la, lm, ld, lr, lc, lf, ln, l1, l2, l3, l4, l5, l6, l7, long)
+
 -- what page 1 with its new front says
 pub record FrontIs (count first free : ℕ) (old new : List ℕ) : Type 0 where
   pub like : AreLike new old
@@ -138,20 +166,7 @@ front_is count first free old small_count small_first small_free long =
     let from96 : drop 96 new ≡ d = drop_number new 92 x d from92 in
     let at24 = one_at new 24 x (c ++ (f ++ (n ++ (m ++ (r ++ d))))) from24 small in
     let at92 = one_at new 92 x d from92 small in
-    let length_new : length new ≡ length old =
-    let l : length new ≡ 24 + length (drop 24 new) = ap length whole ∙ length-append a (r ++ (c ++ (f ++ (n ++ (m ++ (r ++ d)))))) ∙ rw (length_a, from24) refl in
-    let l24 = ap length from24 ∙ length-append r (c ++ (f ++ (n ++ (m ++ (r ++ d))))) in
-    let l28 = length-append c (f ++ (n ++ (m ++ (r ++ d)))) in
-    let l32 = length-append f (n ++ (m ++ (r ++ d))) in
-    let l36 = length-append n (m ++ (r ++ d)) in
-    let l40 = length-append m (r ++ d) in
-    let l92 = length-append r d in
-    let l96 : length d ≡ length old - 96 = length-drop 96 old in
-    let lr = length-bytes_high_first 4 x in
-    let lc = length-bytes_high_first 4 count in
-    let lf = length-bytes_high_first 4 first in
-    let ln = length-bytes_high_first 4 free in
-    omega (arith, l, l24, l28, l32, l36, l40, l92, l96, lr, lc, lf, ln, length_m, long) in
+    let length_new : length new ≡ length old = front_long count first free old long in
     record {
       like = record {
         first = ap (take 24) whole ∙ take_at a (r ++ (c ++ (f ++ (n ++ (m ++ (r ++ d)))))) 24 length_a;

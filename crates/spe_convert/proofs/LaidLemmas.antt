@@ -19,7 +19,7 @@ use Rattle.spe_rewrite.specs.Changes.{changed}
 use Rattle.spe_convert.specs.Trunk.{Trunk, room, trunk_bytes}
 use Rattle.spe_convert.proofs.TrunkLemmas.{EachTrunk, IsSmall, IsTrunk, trunk_is}
 use Rattle.spe_convert.proofs.FrontLemmas.{FrontIs, legal_again, parts_valid}
-use Rattle.spe_convert.proofs.ListLemmas.{few_single}
+use Rattle.spe_convert.proofs.ListLemmas.{few_single, none_or_some}
 use Rattle.spe_convert.proofs.ChainLemmas.{Fits}
 
 -- the pages of free lists: each once, in the file, and not page 1
@@ -44,6 +44,13 @@ listed_apart usable count pages db s =
       lacks = let p = parts 1 in let o = once 1 in omega (arith, p, o, there_is);
       some = let first = within 1 (let p = parts 1 in omega (arith, p, there_is)) in first.1;
     }
+
+-- page 0 is none of them
+pub lacks_none : (count : ℕ) (listed : List ℕ) → AreApart count listed → times 0 listed ≡ 0
+lacks_none count listed apart = ⊎_elim
+    (λ (none : times 0 listed ≡ 0). none)
+    (λ (some : 0 < times 0 listed). let inside = apart.within 0 some in absurd (omega (arith, inside.0)))
+    (none_or_some (times 0 listed))
 
 -- so are these numbers in another order
 pub apart_again : (count : ℕ) (free listed : List ℕ) → AreSame free listed → AreApart count listed → AreApart count free

@@ -11,3 +11,9 @@ pub mod ReadLemmas
 pub mod FoundLemmas
 pub mod CountLemmas
 pub mod StockLemmas
+pub mod AscendLemmas
+pub mod CutLemmas
+pub mod ShownLemmas
+pub mod PlanLemmas
+pub mod RestLemmas
+pub mod WholeLemmas

@@ -13,6 +13,7 @@ use Rattle.spe_convert.specs.Trunk.{Trunk}
 use Rattle.spe_rewrite.specs.declared.change.Change.{Change}
 use Rattle.spe_rewrite.specs.Changes.{changed}
 use Rattle.spe_convert.specs.Changes.{change_of}
+use Rattle.spe_convert.specs.Made.{changed_pages, heads}
 use Rattle.spe_convert.proofs.TrunkLemmas.{EachTrunk, all_of}
 
 pub each_take : (P : ℕ → Type 0) (n : ℕ) (xs : List ℕ) → Each P xs → Each P (take n xs)
@@ -28,14 +29,6 @@ each_append P (x ∷ xs) ys a b = (a.0, each_append P xs ys a.1 b)
 pub trunk_append : (P : Trunk → Type 0) (xs ys : List Trunk) → EachTrunk P xs → EachTrunk P ys → EachTrunk P (xs ++ ys)
 trunk_append P [] ys a b = b
 trunk_append P (x ∷ xs) ys a b = (a.0, trunk_append P xs ys a.1 b)
-
--- the pages of some changes
-abbrev pub changed_pages : List Change → List ℕ
-changed_pages cs = map (λ (c : Change). c.page) cs
-
--- the pages of trunks themselves
-abbrev pub heads : List Trunk → List ℕ
-heads ts = map (λ (t : Trunk). t.page) ts
 
 pub heads_changed : (usable : ℕ) (old : Paging) (ts : List Trunk) → changed_pages (map (change_of usable old) ts) ≡ heads ts
 heads_changed usable old [] = refl
@@ -89,7 +82,7 @@ numbers_within k (suc m) n some = ⊎_elim
     let rest = numbers_within (k + 1) m n (omega (arith, at, some)) in (omega (arith, rest.0), omega (arith, rest.1)))
     (same_or_not n k)
 
-none_or_some : (n : ℕ) → (n ≡ 0) ⊎ (0 < n)
+pub none_or_some : (n : ℕ) → (n ≡ 0) ⊎ (0 < n)
 none_or_some zero = inl refl
 none_or_some (suc n) = inr (omega arith)
 

@@ -15,17 +15,18 @@ use Rattle.byteorder.specs.Endian.{big_bytes}
 use Rattle.spe_frame.specs.Times.{AreSame, one_if, times}
 use Rattle.spe_frame.proofs.TimesLemmas.{Each, here, there, times-append}
 use Rattle.spe_rewrite.specs.Changes.{changed}
+use Rattle.spe_convert.specs.Made.{changed_pages, heads}
 use Rattle.spe_convert.specs.Trunk.{Trunk, bare, number_bytes, page_of, pages_of, room}
 use Rattle.spe_convert.specs.Dealt.{first_of}
 use Rattle.spe_convert.specs.Changes.{added, before, first_trunks_of, other_trunks_of, prepared_changes, supply, trunks_dealt}
 use Rattle.spe_convert.specs.Laws.{PrepareKeeps}
-use Rattle.spe_convert.proofs.StayLemmas.{FreeChange, stays}
+use Rattle.spe_convert.proofs.StayLemmas.{FreeChange, sort_kept, stays}
 use Rattle.spe_convert.proofs.TrunkLemmas.{EachTrunk, IsSmall, IsTrunk, all_of, drop_number, each_trunk_left, each_trunk_right, one_at, reads_at, trunks_list, trunks_read}
 use Rattle.spe_convert.proofs.FrontLemmas.{FrontIs, front_is}
-use Rattle.spe_convert.proofs.ListLemmas.{all_laid, changed_pages, each_drop, each_mapped, each_take, heads, heads_changed, heads_few, none_laid, numbers_lack, numbers_length, numbers_single, numbers_within, trunk_append}
+use Rattle.spe_convert.proofs.ListLemmas.{all_laid, each_drop, each_mapped, each_take, heads_changed, heads_few, none_laid, numbers_lack, numbers_length, numbers_single, numbers_within, trunk_append}
 use Rattle.spe_convert.proofs.ChainLemmas.{Fits}
 use Rattle.spe_convert.proofs.DealtLemmas.{AreLists, EachChain, all_both, bare_chains, bare_each, bare_fits, bare_heads, bare_lists, bare_pages, chained_pages, dealt_counts, dealt_fits, dealt_heads, dealt_lists, no_chains}
-use Rattle.spe_convert.proofs.LaidLemmas.{AreApart, all_small, all_some, apart_again, changes_single, front_counts, laid_is, listed_apart, not_laid, sizes_of, small_count, trunks_are}
+use Rattle.spe_convert.proofs.LaidLemmas.{all_small, all_some, apart_again, AreApart, changes_single, front_counts, lacks_none, laid_is, listed_apart, not_laid, sizes_of, small_count, trunks_are}
 
 -- the free pages and the new ones
 pub supply_apart : (count lists : ℕ) (free : List ℕ) → AreApart count free → AreApart (count + added count lists free) (supply count lists free)
@@ -272,14 +273,16 @@ prepare_keeps size usable count lists pages db free with one most_lists fits_in 
       pages_are = refl;
     } in
     let same : AreSame listed all = λ n. let a = deal.counts n in let b = parts.counts n in omega (arith, a, b) in
+    let kept : (n : ℕ) → n ≤ count → n ≢ 1 → times n with.stands.listed ≡ 0 → new n ≡ pages n = λ n inside other lacks. not_laid cs pages n (none_laid cs n
+    (let a = less n in
+    let b = there n 1 all other in
+    let c = times-append n free numbers in
+    let d = numbers_lack (count + 1) more n (omega (arith, inside)) in
+    let e = with.free_are n in
+    omega (arith, a, b, c, d, e, lacks))) in
     let change : FreeChange count count' pages new with.stands.listed listed numbers = record {
-      bytes = λ n inside other lacks. not_laid cs pages n (none_laid cs n
-          (let a = less n in
-          let b = there n 1 all other in
-          let c = times-append n free numbers in
-          let d = numbers_lack (count + 1) more n (omega (arith, inside)) in
-          let e = with.free_are n in
-          omega (arith, a, b, c, d, e, lacks)));
+      bytes = λ n low inside other lacks. kept n inside other lacks;
+      sort = sort_kept pages new (kept 0 (omega arith) (λ (e : 0 ≡ 1). absurd (omega (arith, e))) (lacks_none count with.stands.listed (listed_apart usable count pages db with.stands)));
       front = is.alike;
       same = λ n.
           let a = same n in

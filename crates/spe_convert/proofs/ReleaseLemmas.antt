@@ -1,5 +1,5 @@
 -- Free lists in stock form.
-use Rattle.std.proofs.Common.{◌≡◌, ℕ, ◌<◌, ◌≤◌, ◌∙◌, List, [], ◌∷◌, length, refl, sym, ap, subst, arith, true, false, Bool, Some}
+use Rattle.std.proofs.Common.{◌≡◌, ◌≢◌, ℕ, ◌<◌, ◌≤◌, ◌∙◌, List, [], ◌∷◌, length, refl, sym, ap, subst, arith, true, false, Bool, Some}
 use Rattle.std.specs.Prelude.{◌==◌, ◌&&◌, not}
 use Rattle.std.proofs.lemmas.Bool.{ne_eqb}
 use Rattle.spe_model.specs.Big.{u32_at}
@@ -9,16 +9,17 @@ use Rattle.spe_model.specs.Standing.{FreeChain, IsServer, IsStock, Whether, chai
 use Rattle.spe_frame.specs.Times.{times}
 use Rattle.spe_frame.proofs.TimesLemmas.{here, there, times-append}
 use Rattle.spe_rewrite.specs.Changes.{changed}
+use Rattle.spe_convert.specs.Made.{changed_pages}
 use Rattle.spe_convert.specs.Trunk.{room}
 use Rattle.spe_convert.specs.Dealt.{chained, first_of}
 use Rattle.spe_convert.specs.Changes.{released_changes}
 use Rattle.spe_convert.specs.Laws.{ReleaseKeeps}
-use Rattle.spe_convert.proofs.StayLemmas.{FreeChange, stays}
+use Rattle.spe_convert.proofs.StayLemmas.{FreeChange, sort_kept, stays}
 use Rattle.spe_convert.proofs.TrunkLemmas.{IsSmall, trunks_list, trunks_read}
 use Rattle.spe_convert.proofs.FrontLemmas.{FrontIs, front_is}
-use Rattle.spe_convert.proofs.ListLemmas.{all_laid, changed_pages, each_mapped, heads_changed, heads_few, none_laid}
+use Rattle.spe_convert.proofs.ListLemmas.{all_laid, each_mapped, heads_changed, heads_few, none_laid}
 use Rattle.spe_convert.proofs.ChainLemmas.{all_chained, fits_chained, linked_chained}
-use Rattle.spe_convert.proofs.LaidLemmas.{all_small, all_some, apart_again, changes_single, few_free, front_counts, listed_apart, not_laid, sizes_of, small_count, trunks_are}
+use Rattle.spe_convert.proofs.LaidLemmas.{all_small, all_some, apart_again, changes_single, few_free, front_counts, lacks_none, listed_apart, not_laid, sizes_of, small_count, trunks_are}
 
 -- page 1 names no node page where it names the first of so many free pages
 names_none : (page free : List ℕ) → u32_at page 32 ≡ first_of free → u32_at page 36 ≡ length free → names_node page ≡ false
@@ -31,7 +32,7 @@ names_none page (p ∷ ps) first count =
     and_false true = refl
     and_false false = refl
 
-first_small : (free : List ℕ) → ((n : ℕ) → 0 < times n free → IsSmall n) → IsSmall (first_of free)
+pub first_small : (free : List ℕ) → ((n : ℕ) → 0 < times n free → IsSmall n) → IsSmall (first_of free)
 first_small [] each = omega arith
 first_small (p ∷ ps) each = each p (let at = here p p ps refl in omega (arith, at))
 
@@ -72,9 +73,11 @@ release_keeps size usable count pages db free with =
       counted = ap length list ∙ sym is.free_is;
       pages_are = sym list;
     } in
+    let kept : (n : ℕ) → n ≢ 1 → times n with.stands.listed ≡ 0 → new n ≡ pages n = λ n other lacks. not_laid cs pages n (none_laid cs n
+    (let a = less n in let b = there n 1 free other in let e = with.free_are n in omega (arith, a, b, e, lacks))) in
     let change : FreeChange count count pages new with.stands.listed free [] = record {
-      bytes = λ n inside other lacks. not_laid cs pages n (none_laid cs n
-          (let a = less n in let b = there n 1 free other in let e = with.free_are n in omega (arith, a, b, e, lacks)));
+      bytes = λ n low inside other lacks. kept n other lacks;
+      sort = sort_kept pages new (kept 0 (λ (e : 0 ≡ 1). absurd (omega (arith, e))) (lacks_none count with.stands.listed (listed_apart usable count pages db with.stands)));
       front = is.alike;
       same = λ n. let a = times-append n with.stands.listed [] in let e = with.free_are n in omega (arith, a, e);
       single = λ n. omega arith;

@@ -70,10 +70,10 @@ rows_at : (usable : ℕ) (old new : Paging) (table : Bool) (height root : ℕ) �
 rows_at usable old new true height root kept = sym (tree_rows_kept usable old new height root kept)
 rows_at usable old new false height root kept = refl
 
-entry_kept : (usable : ℕ) (old new : Paging) (root : ℕ) (grown : Option Tree) → new 0 ≡ old 0 → HoldsOf (IsKept old new) (pages_of_some usable old grown)
+entry_kept : (usable : ℕ) (old new : Paging) (root : ℕ) (grown : Option Tree) → is_index_page old 0 ≡ is_index_page new 0 → HoldsOf (IsKept old new) (pages_of_some usable old grown)
     → HasTree usable old root grown → EntryKept usable old new root grown
 entry_kept usable old new root None none holds has =
-    record { sort = sort_at old new root (ap new has ∙ none ∙ ap old (sym has)); tree = has; rows = refl; pages_are = refl }
+    record { sort = ap (is_index_page old) has ∙ none ∙ ap (is_index_page new) (sym has); tree = has; rows = refl; pages_are = refl }
 entry_kept usable old new root (Some t) none holds has =
     let kept = whole_kept usable old new t.height t.root (each_from_holds (IsKept old new) (pages_of_tree usable old t) holds) in
     let there : 0 < times t.root (pages_of_tree usable old t) =
@@ -86,7 +86,7 @@ entry_kept usable old new root (Some t) none holds has =
       pages_are = all_pages_kept usable old new t.height t.root kept;
     }
 
-entries_kept : (usable : ℕ) (old new : Paging) (all rows : List SchemaRow) (trees : List (Option Tree)) (db : Database) → new 0 ≡ old 0
+entries_kept : (usable : ℕ) (old new : Paging) (all rows : List SchemaRow) (trees : List (Option Tree)) (db : Database) → is_index_page old 0 ≡ is_index_page new 0
     → HoldsOf (IsKept old new) (flat_map (pages_of_some usable old) trees) → AreEntries usable old all rows trees db → AreEntries usable new all rows trees db
 entries_kept usable old new all [] [] [] none holds are = tt
 entries_kept usable old new all [] [] (o ∷ os) none holds are = absurd are
@@ -105,7 +105,7 @@ entries_kept usable old new all (r ∷ rs) (t ∷ ts) (o ∷ os) none holds are 
       entries_kept usable old new all rs ts os none (λ n some. holds n (rw (times-append n mine more) (omega (arith, some)))) are.1,
     )
 
-entries_pages : (usable : ℕ) (old new : Paging) (all rows : List SchemaRow) (trees : List (Option Tree)) (db : Database) → new 0 ≡ old 0
+entries_pages : (usable : ℕ) (old new : Paging) (all rows : List SchemaRow) (trees : List (Option Tree)) (db : Database) → is_index_page old 0 ≡ is_index_page new 0
     → HoldsOf (IsKept old new) (flat_map (pages_of_some usable old) trees) → AreEntries usable old all rows trees db
     → flat_map (pages_of_some usable new) trees ≡ flat_map (pages_of_some usable old) trees
 entries_pages usable old new all [] [] [] none holds are = refl
@@ -136,7 +136,8 @@ schema_kept usable height old new alike holds once =
 
 -- What changes: free pages, added ones, and the front of page 1.
 pub record FreeChange (count count' : ℕ) (old new : Paging) (listed listed' more : List ℕ) : Type 0 where
-  pub bytes : (n : ℕ) → n ≤ count → n ≢ 1 → Lacks listed n → new n ≡ old n
+  pub bytes : (n : ℕ) → 1 ≤ n → n ≤ count → n ≢ 1 → Lacks listed n → new n ≡ old n
+  pub sort : is_index_page old 0 ≡ is_index_page new 0
   pub front : AreAlike 100 (new 1) (old 1)
   pub same : AreSame listed' (listed ++ more)
   pub single : AreSingle more
@@ -176,6 +177,10 @@ within_again count count' trees listed listed' more same above low within n some
     (λ (more_some : 0 < times n more). let high = above n more_some in (omega (arith, high.0), high.1))
     (none_or_some (times n more))
 
+-- where page 0 keeps its bytes it keeps its sort
+pub sort_kept : (old new : Paging) → new 0 ≡ old 0 → is_index_page old 0 ≡ is_index_page new 0
+sort_kept old new kept = sort_at old new 0 kept
+
 -- then they stand for the same database, with the new lists
 pub stays : (usable count count' : ℕ) (old new : Paging) (db : Database) (before : StandsFor usable count old db) (lists : List FreeChain) (listed more : List ℕ)
     → FreeChange count count' old new before.listed listed more → AreFree usable new lists listed
@@ -192,7 +197,7 @@ stays usable count count' old new db before lists listed more change free =
     let p = parts n in
     let o = once n in
     let inside = within n (omega (arith, p, some)) in
-    change.bytes n inside.1 other (omega (arith, p, o, some)) in
+    change.bytes n inside.0 inside.1 other (omega (arith, p, o, some)) in
     let tree = schema_kept usable before.height old new change.front (λ n some other. kept_in n (omega (arith, some)) other)
     (let p = parts 1 in let o = once 1 in omega (arith, p, o)) in
     let not_first : (n : ℕ) → 0 < times n others → n ≢ 1 = λ n some e.
@@ -201,12 +206,8 @@ stays usable count count' old new db before lists listed more change free =
     let s = subst (λ (m : ℕ). 0 < times m others) e some in
     absurd (omega (arith, p, o, s, root_there)) in
     let holds : HoldsOf (IsKept old new) others = λ n some. kept_in n (omega (arith, some)) (not_first n some) in
-    let none : new 0 ≡ old 0 = change.bytes 0 (omega arith) (λ (e : 0 ≡ 1). absurd (omega (arith, e)))
-    (⊎_elim (λ (out : times 0 before.listed ≡ 0). out)
-    (λ (some : 0 < times 0 before.listed). let p = parts 0 in let inside = within 0 (omega (arith, p, some)) in absurd (omega (arith, inside.0)))
-    (none_or_some (times 0 before.listed))) in
     let schema_is = all_pages_kept usable old new before.height 1 tree in
-    let others_are = entries_pages usable old new before.rows before.rows before.trees db none holds before.entries in
+    let others_are = entries_pages usable old new before.rows before.rows before.trees db change.sort holds before.entries in
     let trees_are : all_pages usable new before.height 1 ++ flat_map (pages_of_some usable new) before.trees ≡ schema ++ others = rw (schema_is, others_are) refl in (
       record {
         height = before.height;
@@ -215,7 +216,7 @@ stays usable count count' old new db before lists listed more change free =
         rows_are = rw (tree_rows_kept usable old new before.height 1 tree) before.rows_are;
         named = before.named;
         trees = before.trees;
-        entries = entries_kept usable old new before.rows before.rows before.trees db none holds before.entries;
+        entries = entries_kept usable old new before.rows before.rows before.trees db change.sort holds before.entries;
         lists = lists;
         listed = listed;
         free = free;

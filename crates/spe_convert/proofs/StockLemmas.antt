@@ -48,19 +48,19 @@ trunk_made usable used page next leaves buf bytes pages same is read =
     let made : List ℕ → Change = λ b. record { page = page; bytes = b } in ap made whole
 
 -- one trunk more is made
-pub chain_turn : (most : ℕ) (f : Trunk → Change) (left leaves more : List ℕ) (change : Change) (start done after : List Change) (all : List Trunk) → 1 ≤ length left
+pub chain_turn : {X : Type 0} (most : ℕ) (f : Trunk → X) (left leaves more : List ℕ) (change : X) (start done after : List X) (all : List Trunk) → 1 ≤ length left
     → leaves ≡ take most (drop 1 left) → more ≡ drop most (drop 1 left) → change ≡ f (trunk_of (get_or left 0 0) (first_of more) leaves) → after ≡ done ++ change ∷ []
     → done ++ map f (chained most (length left) left) ≡ start ++ map f all → after ++ map f (chained most (length more) more) ≡ start ++ map f all
 chain_turn most f [] leaves more change start done after all some leaves_are more_is is after_is kept = absurd (omega (arith, some))
-chain_turn most f (p ∷ ps) leaves more change start done after all some leaves_are more_is is after_is kept =
+chain_turn {X = X} most f (p ∷ ps) leaves more change start done after all some leaves_are more_is is after_is kept =
     let l = length-drop most ps in
     let rest : chained most (length more) more ≡ chained most (length ps) (drop most ps) =
     ap (λ (qs : List ℕ). chained most (length qs) qs) more_is ∙ chained_enough most (length (drop most ps)) (length ps) (drop most ps) (omega arith) (omega (arith, l)) in
     let mine : change ≡ f (trunk_of p (first_of (drop most ps)) (take most ps)) =
     is ∙ ap (λ (qs : List ℕ). f (trunk_of p (first_of qs) leaves)) more_is ∙ ap (λ (qs : List ℕ). f (trunk_of p (first_of (drop most ps)) qs)) leaves_are in
-    ap (λ (cs : List Change). cs ++ map f (chained most (length more) more)) after_is
+    ap (λ (cs : List X). cs ++ map f (chained most (length more) more)) after_is
     ∙ append_assoc done (change ∷ []) (map f (chained most (length more) more))
-    ∙ ap (λ (c : Change). done ++ c ∷ map f (chained most (length more) more)) mine
+    ∙ ap (λ (c : X). done ++ c ∷ map f (chained most (length more) more)) mine
     ∙ ap (λ (ts : List Trunk). done ++ f (trunk_of p (first_of (drop most ps)) (take most ps)) ∷ map f ts) rest ∙ kept
 
 numbers_long : (ns : List ℕ) → length (number_bytes ns) ≡ 4 * length ns

@@ -61,11 +61,13 @@ prepared_changes size usable count lists free pages =
     (record { page = 1; bytes = front_page (count + added count lists free) (first_of (supply count lists free)) 0 (pages 1) })
     ∷ server_changes usable lists (before size count pages) (supply count lists free)
 
--- what changes where they are put in stock form
+-- page 1 where they are put in stock form
+abbrev pub front_change : (count : ℕ) → (free : List ℕ) → Paging → Change
+front_change count free pages = record { page = 1; bytes = front_page count (first_of free) (length free) (pages 1) }
+
+-- what changes then
 abbrev pub released_changes : (usable count : ℕ) → (free : List ℕ) → Paging → List Change
-released_changes usable count free pages =
-    (record { page = 1; bytes = front_page count (first_of free) (length free) (pages 1) })
-    ∷ map (change_of usable pages) (chained (room usable) (length free) free)
+released_changes usable count free pages = front_change count free pages ∷ map (change_of usable pages) (chained (room usable) (length free) free)
 
 -- what changes where the page count is to count
 abbrev pub counted_changes : (count : ℕ) → Paging → List Change

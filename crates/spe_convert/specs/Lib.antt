@@ -5,3 +5,5 @@ pub mod Laws
 pub mod Made
 pub mod Reading
 pub mod Free
+pub mod Release
+pub mod Causes

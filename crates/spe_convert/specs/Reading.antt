@@ -12,7 +12,7 @@ use Rattle.spe_model.specs.Standing.{IsOneOf}
 use Rattle.spe_model.specs.Trace.{History, present}
 use Rattle.spe_model.specs.Walk.{is_one_of}
 use Rattle.spe_convert.specs.declared.fault.ConvertFault.{ConvertFault}
-use Rattle.spe_convert.specs.declared.fault.ConvertFault.TheVariants.{Corrupt, Disk, Full, Prepared}
+use Rattle.spe_convert.specs.declared.fault.ConvertFault.TheVariants.{Corrupt, Disk, Full, Memory, Prepared}
 
 -- the file has these pages, where they are among those that were found
 abbrev pub Holds : Recovered → Content → Paging → Type 0
@@ -46,10 +46,21 @@ IsReading before now (Full pages) = ⊥
 IsReading before now Prepared = ⊥
 IsReading before now _ = Unit {0}
 
+-- why a call fails that reads pages and finds no fault with them
+abbrev pub IsPlain : (before now : ℕ) → ConvertFault → Type 0
+IsPlain before now Disk = Rose before now
+IsPlain before now Memory = Unit {0}
+IsPlain before now _ = ⊥
+
 -- a count of faults never falls, and has risen where the disk failed
 pub record HasReading {T : Type 0} (before now : ℕ) (result : Result T ConvertFault) : Type 0 where
   pub later : before ≤ now
   pub failed : IfErr result (IsReading before now)
+
+-- the same, where no fault is found with the pages
+pub record HasPlainReading {T : Type 0} (before now : ℕ) (result : Result T ConvertFault) : Type 0 where
+  pub later : before ≤ now
+  pub failed : IfErr result (IsPlain before now)
 
 -- one trunk is read, and what was read before is kept
 abbrev pub ReadsTrunk : (usable count : ℕ) → (trunk : ℕ) → (before after : List ℕ) → Result ℕ ConvertFault → Paging → Type 0

@@ -4,12 +4,16 @@
 //! `prepared_changes` and `released_changes` name, stand for the same database, with the same pages
 //! free. `read_free` reads the numbers of all free pages, in either form, from the file; `trunk_page`,
 //! `node_page`, `front_page` and `counted_page` give the bytes of the pages that change.
+//!
+//! `release` puts the free lists of a recovered database back in stock form, in one transaction: it
+//! leaves the old pages or the new ones, and the rows are the same.
 #![tactic(auto)]
 
 mod fault;
 mod free;
 mod law;
 mod page;
+mod releasing;
 mod stock;
 mod trunks;
 
@@ -17,4 +21,5 @@ pub use fault::ConvertFault;
 pub use free::read_free;
 pub use law::lists_keep;
 pub use page::{counted_page, front_page, node_page, trunk_page};
+pub use releasing::release;
 pub use stock::chain_changes;

@@ -5,8 +5,8 @@ ghost use Rattle.spe_model.specs.Settled.{IsWithinLimits};
 ghost use Rattle.spe_model.specs.Standing.{IsOneOf};
 ghost use Rattle.spe_convert.specs.Changes.{change_of};
 ghost use Rattle.spe_convert.specs.Dealt.{chained, first_of};
-ghost use Rattle.spe_convert.specs.Made.{HaveSize, trunk_of};
-ghost use Rattle.spe_convert.specs.Reading.{HasReading, WhereHeld, are_ascending, usable_of};
+ghost use Rattle.spe_convert.specs.Made.{HaveSize, changed_pages, heads, trunk_of};
+ghost use Rattle.spe_convert.specs.Reading.{HasPlainReading, WhereHeld, are_ascending, usable_of};
 ghost use Rattle.spe_convert.specs.Trunk.{room};
 
 use crate::fault::ConvertFault;
@@ -38,7 +38,7 @@ fn trunk_change<D: Disk>(
     ensures sized { IfOk result (λ change. length change.bytes ≡ found.now.page_size) }
     ensures same { D.told disk.new ≡ D.told disk.old }
     ensures attached { D.attached disk.new ≡ true }
-    ensures cause { HasReading (D.read_faults disk.old) (D.read_faults disk.new) result }
+    ensures cause { HasPlainReading (D.read_faults disk.old) (D.read_faults disk.new) result }
     ensures operations { D.op_faults disk.new ≡ D.op_faults disk.old }
 {
     read_page(disk, found, page, buf)?;
@@ -47,7 +47,8 @@ fn trunk_change<D: Disk>(
     Ok(Change { page, bytes })
 }
 
-fn first_of(pages: &[u32]) -> u32
+/// The first of some pages, 0 where there is none.
+pub fn first_of(pages: &[u32]) -> u32
     ensures { result ≡ first_of pages.now }
 {
     match pages {
@@ -73,10 +74,11 @@ pub fn chain_changes<D: Disk>(
     requires size { length buf.old ≡ found.now.page_size }
     requires inside { All (IsOneOf found.now.pages) free.now }
     ensures made { OnOk result (WhereHeld (D.told disk.old) found.now (λ pages. changes.new.items ≡ changes.old.items ++ map (change_of (usable_of found.now) pages) (chained (room (usable_of found.now)) (length free.now) free.now))) }
+    ensures numbers { OnOk result (changed_pages changes.new.items ≡ changed_pages changes.old.items ++ heads (chained (room (usable_of found.now)) (length free.now) free.now)) }
     ensures sized { OnOk result (HaveSize found.now.page_size changes.old.items → HaveSize found.now.page_size changes.new.items) }
     ensures same { D.told disk.new ≡ D.told disk.old }
     ensures attached { D.attached disk.new ≡ true }
-    ensures cause { HasReading (D.read_faults disk.old) (D.read_faults disk.new) result }
+    ensures cause { HasPlainReading (D.read_faults disk.old) (D.read_faults disk.new) result }
     ensures operations { D.op_faults disk.new ≡ D.op_faults disk.old }
 {
     let most = most_leaves(found);

@@ -1,33 +1,15 @@
 //! The free pages of files in memory.
 
-ghost use Rattle.std.specs.Prelude.{◌≡◌, true, false, IfOk};
+ghost use Rattle.std.specs.Prelude.{◌≡◌, false};
 ghost use Rattle.spe_disk.specs.Memory.{is_attached};
 
+use super::files::{Patch, disk_of, file_of};
 use spe_convert::{ConvertFault, read_free};
-use spe_disk::{Disk, Faults, FileNo, MemDisk};
-use spe_model::Numbers;
+use spe_disk::{Disk, MemDisk};
 use spe_recover::{Want, recover};
 use std::alloc::{AllocError, Global};
 use std::process::Abort;
 use std::test::Fail;
-
-// Bytes from a place on.
-type Patch = (usize, &'static [u8]);
-
-// Bytes in a page.
-const PAGE: usize = 512;
-
-// Page 1 of a database without tables, with page size 512. The page count at 28 is not valid.
-const FRONT: [Patch; 5] = [
-    (
-        0,
-        b"SQLite format 3\x00\x02\x00\x01\x01\x00@  \x00\x00\x00\x03",
-    ),
-    (43, b"\x01\x00\x00\x00\x04"),
-    (59, b"\x01"),
-    (96, b"\x00.v\x89"),
-    (100, b"\x0d\x00\x00\x00\x00\x02\x00"),
-];
 
 // What is read.
 #[derive(Clone, Copy, Debug, PartialEq, Eq)]
@@ -149,38 +131,6 @@ static CASES: [Case; 11] = [
     },
 ];
 
-fn lay(file: &mut [u8], at: usize, bytes: &[u8]) {
-    for (i, byte) in bytes.iter().enumerate() {
-        if let Some(place) = file.get_mut(at.wrapping_add(i)) {
-            *place = *byte;
-        }
-    }
-}
-
-fn file_of(alloc: Global, case: &Case) -> Result<Vec<u8>, AllocError> {
-    let mut file = vec![in alloc; 0u8; case.pages.wrapping_mul(PAGE)]?;
-    for (at, bytes) in &FRONT {
-        lay(&mut file, *at, bytes);
-    }
-    for (at, bytes) in case.bytes {
-        lay(&mut file, *at, bytes);
-    }
-    Ok(file)
-}
-
-fn disk_of(alloc: Global, file: &[u8]) -> Result<MemDisk, AllocError>
-    ensures { IfOk result (λ d. is_attached d ≡ false) }
-{
-    let faults = Faults {
-        reads: Numbers::new(Vec::new(alloc)),
-        ops: Numbers::new(Vec::new(alloc)),
-        made: false,
-    };
-    let mut disk = MemDisk::new(alloc, 1 << 15, 16, faults)?;
-    let _ = disk.load(FileNo::Database, file);
-    Ok(disk)
-}
-
 fn seen(free: &[u32]) -> Read {
     let first = match free.first() {
         Some(page) => *page,
@@ -214,8 +164,8 @@ fn read_of(alloc: Global, disk: &mut MemDisk) -> Result<Read, AllocError>
 }
 
 fn expect_case(rt: &impl Abort, alloc: Global, case: &Case) -> Result<(), AllocError> {
-    let file = file_of(alloc, case)?;
-    let mut disk = disk_of(alloc, &file)?;
+    let file = file_of(alloc, case.pages, case.bytes)?;
+    let mut disk = disk_of(alloc, &file, 0, false)?;
     let read = read_of(alloc, &mut disk)?;
     assert_eq!(rt; read, case.read, "{}", case.name);
     Ok(())

@@ -13,17 +13,17 @@ use Rattle.spe_check.proofs.index_tree.+index.Goals as goal
 
 pub walk_index-returns-in-Err-clause-tried : goal.walk_index-returns-in-Err-clause-tried
 walk_index-returns-in-Err-clause-tried g t c = λ usable pages shows stand is. (
-  unread c.args.met.now.pages (has_met c.args.met.now) (has_met c.read_met.new.met) usable pages c.args.holder c.args.page (index_marks usable pages stand c.args.levels c.args.holder c.args.page) c.in-Err.halt
+  unread c.args.met.now.pages (has_met c.args.met.now) (has_met c.copy_met.new.met) usable pages c.args.holder c.args.page (index_marks usable pages stand c.args.levels c.args.holder c.args.page) c.in-Err.halt
       (index_read usable pages stand c.args.levels c.args.holder c.args.page) (c.in-Err.ensures.tried usable pages shows).0,
   tt,
 )
 
 pub walk_index-returns-clause-tried : goal.walk_index-returns-clause-tried
 walk_index-returns-clause-tried g t c = λ usable pages shows stand is.
-    let now = shows_before g.S.Pages c.read_met.new.space c.walk_index_from.new.space usable pages c.walk_index_from.ensures.walked.reads shows in
+    let now = shows_before g.S.Pages c.copy_met.new.space c.walk_index_from.new.space usable pages c.walk_index_from.ensures.walked.reads shows in
     let read = c.in-Ok.ensures.tried usable pages now in
     let rest = c.walk_index_from.ensures.tried usable pages shows stand c.args.holder read.1 is in (
-      from_read c.args.met.now.pages c.read_met.new.met.pages (has_met c.args.met.now) (has_met c.read_met.new.met) (has_met c.walk_index_from.new.met) usable pages c.args.holder c.args.page
+      from_read c.args.met.now.pages c.copy_met.new.met.pages (has_met c.args.met.now) (has_met c.copy_met.new.met) (has_met c.walk_index_from.new.met) usable pages c.args.holder c.args.page
           (index_marks usable pages stand c.args.levels c.args.holder c.args.page) c.in-Ok.node c.walk_index_from.result c.in-Ok.ensures.walked.pages
           (index_read usable pages stand c.args.levels c.args.holder c.args.page) read.0 rest.0,
       rest.1,

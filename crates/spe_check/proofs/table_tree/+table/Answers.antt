@@ -1,16 +1,14 @@
-use Rattle.std.proofs.Common.{◌≡◌, ◌∙◌, ◌-◌, ◌++◌, List, OnOk, drop, arith, refl, subst, sym}
-use Rattle.std.proofs.lemmas.Grind.{common_steps}
-use Rattle.spe_model.specs.declared.page.Cell.{Cell}
-use Rattle.spe_model.specs.Walk.{fan_rows, leaf_marks, leaf_rows, levels_at_leaf, table_marks, walk_rows}
+use Rattle.std.proofs.Common.{◌≡◌, ℕ, ◌+◌, ◌∙◌, ◌-◌, ◌++◌, drop, arith, refl, subst, sym}
+use Rattle.spe_format.specs.View.{cell_seen}
+use Rattle.spe_model.specs.Walk.{fan_rows, levels_at_leaf, table_marks, walk_rows}
 use Rattle.spe_check.specs.IndexTree.{level_of}
 use Rattle.spe_check.specs.MetPages.{has_met}
 use Rattle.spe_check.specs.Pages.{behind_read}
-use Rattle.spe_check.specs.TableTree.{IsTableFanned, low_of, high_of}
-use Rattle.spe_check.specs.Tries.{Tries}
-use Rattle.spe_check.proofs.IndexLemmas.{some_level, front_is, stands_at}
+use Rattle.spe_check.specs.TableTree.{TriesTable, low_of, high_of}
+use Rattle.spe_check.proofs.IndexLemmas.{some_level, stands_at}
 use Rattle.spe_check.proofs.PageLemmas.{first_at_leaf, from_read, unread, walked_none}
 use Rattle.spe_check.proofs.ShownLemmas.{shows_before, walked_both}
-use Rattle.spe_check.proofs.TableLemmas.{rows_last, table_read, table_halt}
+use Rattle.spe_check.proofs.TableLemmas.{none_left, rows_last, table_read, table_halt}
 use Rattle.spe_check.proofs.TableFanLemmas.{child_halt, key_halt, table_child_stands, table_fanned_first, table_fanned_last, table_fanned_next, table_fanned_rest}
 use Rattle.spe_check.proofs.table_tree.+table.Goals as goal
 
@@ -47,21 +45,17 @@ walk_table_from-returns-in-Err-clause-tried g t c = λ usable pages shows stand 
       tt,
     )
 
-pub walk_table_from-returns-then-is_leaf-clause-tried : goal.walk_table_from-returns-then-is_leaf-clause-tried
-walk_table_from-returns-then-is_leaf-clause-tried g t c = λ usable pages shows stand holder later at is floor.
+pub walk_table_from-returns-then-has_rows-clause-tried : goal.walk_table_from-returns-then-has_rows-clause-tried
+walk_table_from-returns-then-has_rows-clause-tried g t c = λ usable pages shows stand holder later at is floor.
     let v = g.V.RowVisitor in
     let first = first_at_leaf usable pages c.args.levels c.args.page c.args.node.now at in
-    let kind = sym c.is_leaf.ensures ∙ c.if-is_leaf.true in
+    let kind = sym c.has_rows.ensures ∙ c.if-has_rows.true in
     let level : stand ≡ level_of c.args.leaf c.args.levels = stands_at c.args.leaf stand (levels_at_leaf usable pages c.args.levels c.args.page) c.args.levels (first kind c.in-Ok.ensures.some) is in
     let there : stand ≡ c.level_of-level.result = level ∙ sym {b = level_of c.args.leaf c.args.levels} c.level_of-level.ensures in
-    let P : List Cell → Type 0 = λ cs.
-    Tries c.args.met.now.pages (has_met c.args.met.now) (has_met c.try_rows.new.met)
-    (leaf_marks (v.outlook c.args.visitor.now (leaf_rows usable pages c.args.page cs ++ later)).marks usable pages c.args.page (low_of c.args.low) (high_of c.args.high) cs) c.try_rows.result
-    × OnOk c.try_rows.result (v.outlook c.try_rows.new.visitor later ≡ v.outlook c.args.visitor.now (leaf_rows usable pages c.args.page cs ++ later)) in
     rows_last v usable pages c.args.met.now c.try_rows.new.met c.args.visitor.now c.try_rows.new.visitor later stand c.args.levels (low_of c.args.low) (high_of c.args.high) holder c.args.page
     c.level_of-level.result c.args.node.now c.try_rows.result c.in-Ok.ensures.some at kind there
     (c.in-Ok.ensures.tried c.args.met.now.pages (has_met c.args.met.now) stand (levels_at_leaf usable pages c.args.levels c.args.page) is first)
-    (subst P c.as_slice-cells.ensures (c.try_rows.ensures.tried usable pages shows later floor)) c.try_rows.ensures.level
+    (c.try_rows.ensures.tried usable pages shows later floor) c.try_rows.ensures.level
 
 pub walk_table_from-children-init : goal.walk_table_from-children-init
 walk_table_from-children-init g t c = record {
@@ -75,30 +69,25 @@ walk_table_from-children-init g t c = record {
   fanned = λ usable pages shows stand holder later at is floor.
       let v = g.V.RowVisitor in
       let first = first_at_leaf usable pages c.args.levels c.args.page c.args.node.now at in
-      let outlook = v.outlook c.args.visitor.now (walk_rows usable pages c.args.levels c.args.page ++ later) in
-      let all = behind_read (table_marks outlook.marks usable pages stand c.args.levels (low_of c.args.low) (high_of c.args.high) holder c.args.page) in
-      let P : List Cell → Type 0 = λ cs.
-      IsTableFanned v usable pages c.args.met.now c.args.met.now c.args.visitor.now outlook later all stand c.args.levels (low_of c.args.low) (high_of c.args.high) c.args.page c.args.leaf cs c.args.node.now.right in
-      subst P (sym c.as_slice-left.ensures)
-      (table_fanned_first v usable pages c.args.met.now c.args.visitor.now later stand c.args.levels (low_of c.args.low) (high_of c.args.high) holder c.args.page c.args.leaf c.args.node.now c.in-Ok.ensures.some at
-      (sym c.is_leaf.ensures ∙ c.if-is_leaf.false) is
-      (c.in-Ok.ensures.tried c.args.met.now.pages (has_met c.args.met.now) stand (levels_at_leaf usable pages c.args.levels c.args.page) is first));
+      table_fanned_first v usable pages c.args.met.now c.args.visitor.now later stand c.args.levels (low_of c.args.low) (high_of c.args.high) holder c.args.page c.args.leaf c.args.node.now c.in-Ok.ensures.some at
+      (sym c.has_rows.ensures ∙ c.if-has_rows.false) is
+      (c.in-Ok.ensures.tried c.args.met.now.pages (has_met c.args.met.now) stand (levels_at_leaf usable pages c.args.levels c.args.page) is first);
 }
 
 pub walk_table_from-returns-in-Err-walk_table-clause-tried : goal.walk_table_from-returns-in-Err-walk_table-clause-tried
 walk_table_from-returns-in-Err-walk_table-clause-tried g t c = λ usable pages shows stand holder later at is floor.
     let v = g.V.RowVisitor in
     let now = shows_before g.S.Pages c.children.space c.walk_table.new.space usable pages c.in-Err-walk_table.ensures.walked.reads shows in
-    let rest = drop 1 c.children.left.now in
-    let front = front_is c.children.left.now c.cell-item.result c.in-len1-up.len_at_least c.cell-item.is in
+    let rest = drop (c.children.index + 1) c.args.node.now.cells in
+    let front = c.in-Some.ensures.front in
     let fanned = c.children.invariant.fanned usable pages now stand holder later at is floor in
     let outlook = v.outlook c.args.visitor.now (walk_rows usable pages c.args.levels c.args.page ++ later) in
     let all = behind_read (table_marks outlook.marks usable pages stand c.args.levels (low_of c.args.low) (high_of c.args.high) holder c.args.page) in
     let stands = table_child_stands v usable pages c.args.met.now c.children.met c.children.visitor outlook later all stand c.args.levels (low_of c.children.above) (high_of c.args.high) c.args.page c.children.stand
-    c.children.left.now rest c.cell-item.result c.args.node.now.right front fanned in
+    (drop c.children.index c.args.node.now.cells) rest (cell_seen c.in-Some.parts) c.args.node.now.right front fanned in
     let child = c.in-Err-walk_table.ensures.tried usable pages shows stand (fan_rows (walk_rows usable pages (c.args.levels - 1)) rest c.args.node.now.right ++ later) stands (c.children.invariant.floor floor) in (
       child_halt v usable pages c.args.met.now c.children.met c.walk_table.new.met c.children.visitor outlook later all stand c.args.levels (low_of c.children.above) (high_of c.args.high) c.args.page
-          (high_of c.key_of-key.result) c.children.stand c.children.left.now rest c.cell-item.result c.args.node.now.right c.in-Err-walk_table.halt c.children.invariant.walked.pages front c.key_of-key.ensures.high fanned child.0,
+          (high_of c.key_of-key.result) c.children.stand (drop c.children.index c.args.node.now.cells) rest (cell_seen c.in-Some.parts) c.args.node.now.right c.in-Err-walk_table.halt c.children.invariant.walked.pages front c.key_of-key.ensures.high fanned child.0,
       tt,
       tt,
     )
@@ -107,16 +96,16 @@ pub walk_table_from-returns-in-Err-try_bound-clause-tried : goal.walk_table_from
 walk_table_from-returns-in-Err-try_bound-clause-tried g t c = λ usable pages shows stand holder later at is floor.
     let v = g.V.RowVisitor in
     let now = shows_before g.S.Pages c.children.space c.walk_table.new.space usable pages c.in-Ok-walk_table.ensures.walked.reads shows in
-    let rest = drop 1 c.children.left.now in
-    let front = front_is c.children.left.now c.cell-item.result c.in-len1-up.len_at_least c.cell-item.is in
+    let rest = drop (c.children.index + 1) c.args.node.now.cells in
+    let front = c.in-Some.ensures.front in
     let fanned = c.children.invariant.fanned usable pages now stand holder later at is floor in
     let outlook = v.outlook c.args.visitor.now (walk_rows usable pages c.args.levels c.args.page ++ later) in
     let all = behind_read (table_marks outlook.marks usable pages stand c.args.levels (low_of c.args.low) (high_of c.args.high) holder c.args.page) in
     let stands = table_child_stands v usable pages c.args.met.now c.children.met c.children.visitor outlook later all stand c.args.levels (low_of c.children.above) (high_of c.args.high) c.args.page c.children.stand
-    c.children.left.now rest c.cell-item.result c.args.node.now.right front fanned in
+    (drop c.children.index c.args.node.now.cells) rest (cell_seen c.in-Some.parts) c.args.node.now.right front fanned in
     let child = c.in-Ok-walk_table.ensures.tried usable pages shows stand (fan_rows (walk_rows usable pages (c.args.levels - 1)) rest c.args.node.now.right ++ later) stands (c.children.invariant.floor floor) in (
       key_halt v usable pages c.args.met.now c.children.met c.walk_table.new.met c.children.visitor outlook later all stand c.args.levels (low_of c.children.above) (high_of c.args.high) c.args.page
-          (high_of c.key_of-key.result) c.in-Ok-walk_table.level c.children.stand c.children.left.now rest c.cell-item.result c.args.node.now.right c.in-Err-try_bound.halt c.children.invariant.walked.pages front
+          (high_of c.key_of-key.result) c.in-Ok-walk_table.level c.children.stand (drop c.children.index c.args.node.now.cells) rest (cell_seen c.in-Some.parts) c.args.node.now.right c.in-Err-try_bound.halt c.children.invariant.walked.pages front
           c.key_of-key.ensures.high fanned child.0 (c.in-Err-try_bound.ensures.tried c.args.met.now.pages (has_met c.walk_table.new.met)),
       tt,
       tt,
@@ -136,27 +125,31 @@ walk_table_from-children-preserved g t c = record {
   fanned = λ usable pages shows stand holder later at is floor.
       let v = g.V.RowVisitor in
       let now = shows_before g.S.Pages c.children.space c.walk_table.new.space usable pages c.in-Ok-walk_table.ensures.walked.reads shows in
-      let rest = drop 1 c.children.left.now in
-      let front = front_is c.children.left.now c.cell-item.result c.in-len1-up.len_at_least c.cell-item.is in
+      let rest = drop (c.children.index + 1) c.args.node.now.cells in
+      let front = c.in-Some.ensures.front in
       let fanned = c.children.invariant.fanned usable pages now stand holder later at is floor in
       let outlook = v.outlook c.args.visitor.now (walk_rows usable pages c.args.levels c.args.page ++ later) in
       let all = behind_read (table_marks outlook.marks usable pages stand c.args.levels (low_of c.args.low) (high_of c.args.high) holder c.args.page) in
       let stands = table_child_stands v usable pages c.args.met.now c.children.met c.children.visitor outlook later all stand c.args.levels (low_of c.children.above) (high_of c.args.high) c.args.page c.children.stand
-      c.children.left.now rest c.cell-item.result c.args.node.now.right front fanned in
+      (drop c.children.index c.args.node.now.cells) rest (cell_seen c.in-Some.parts) c.args.node.now.right front fanned in
       let child = c.in-Ok-walk_table.ensures.tried usable pages shows stand (fan_rows (walk_rows usable pages (c.args.levels - 1)) rest c.args.node.now.right ++ later) stands (c.children.invariant.floor floor) in
       table_fanned_rest v usable pages c.args.met.now c.walk_table.new.met c.walk_table.new.visitor outlook later all stand c.args.levels (high_of c.key_of-key.result) (low_of c.key_of-key.result) (high_of c.args.high) c.args.page
-      (some_level c.in-Ok-walk_table.level) rest _ c.args.node.now.right (c.key_of-key.ensures.high ∙ sym c.key_of-key.ensures.low) (grind (arith, common_steps))
+      (some_level c.in-Ok-walk_table.level) rest _ c.args.node.now.right (c.key_of-key.ensures.high ∙ sym c.key_of-key.ensures.low) refl
       (table_fanned_next v usable pages c.args.met.now c.children.met c.walk_table.new.met c.children.visitor c.walk_table.new.visitor outlook later all stand c.args.levels (low_of c.children.above) (high_of c.args.high) c.args.page
-      (high_of c.key_of-key.result) c.in-Ok-walk_table.level c.children.stand c.children.left.now rest c.cell-item.result c.args.node.now.right c.children.invariant.walked.pages front c.key_of-key.ensures.high child.1 fanned
+      (high_of c.key_of-key.result) c.in-Ok-walk_table.level c.children.stand (drop c.children.index c.args.node.now.cells) rest (cell_seen c.in-Some.parts) c.args.node.now.right c.children.invariant.walked.pages front c.key_of-key.ensures.high child.1 fanned
       child.0 child.2 (c.in-Ok-try_bound.ensures.tried c.args.met.now.pages (has_met c.walk_table.new.met)));
 }
 
 pub walk_table_from-returns-clause-tried : goal.walk_table_from-returns-clause-tried
 walk_table_from-returns-clause-tried g t c = λ usable pages shows stand holder later at is floor.
     let v = g.V.RowVisitor in
+    let T : ℕ → Type 0 = λ r.
+    TriesTable g.S.Pages v c.walk_table-2.new.space c.children.met c.walk_table-2.new.met c.children.visitor c.walk_table-2.new.visitor c.children.stand (c.args.levels - 1) (low_of c.children.above) (high_of c.args.high) c.args.page r
+    c.walk_table-2.result in
+    let last = subst T c.right-right.ensures c.walk_table-2.ensures.tried in
     let now = shows_before g.S.Pages c.children.space c.walk_table-2.new.space usable pages c.walk_table-2.ensures.walked.reads shows in
     let outlook = v.outlook c.args.visitor.now (walk_rows usable pages c.args.levels c.args.page ++ later) in
     let all = behind_read (table_marks outlook.marks usable pages stand c.args.levels (low_of c.args.low) (high_of c.args.high) holder c.args.page) in
     table_fanned_last v usable pages c.args.met.now c.children.met c.walk_table-2.new.met c.children.visitor c.walk_table-2.new.visitor outlook later all stand c.args.levels (low_of c.children.above) (high_of c.args.high) c.args.page
-    c.children.stand c.children.left.now c.args.node.now.right c.walk_table-2.result c.children.invariant.walked.pages c.in_default.len_below (c.children.invariant.fanned usable pages now stand holder later at is floor)
-    (λ stands. c.walk_table-2.ensures.tried usable pages shows stand later stands (c.children.invariant.floor floor))
+    c.children.stand (drop c.children.index c.args.node.now.cells) c.args.node.now.right c.walk_table-2.result c.children.invariant.walked.pages (none_left (drop c.children.index c.args.node.now.cells) c.in_default.ensures.front) (c.children.invariant.fanned usable pages now stand holder later at is floor)
+    (λ stands. last usable pages shows stand later stands (c.children.invariant.floor floor))

@@ -1,4 +1,4 @@
-use Rattle.std.proofs.Common.{◌≡◌, ◌≤◌, ◌<◌, ◌+◌, ◌*◌, ◌++◌, ℕ, List, Ok, length}
+use Rattle.std.proofs.Common.{◌≡◌, ◌≤◌, ◌<◌, ◌+◌, ◌*◌, ◌++◌, ℕ, List, Ok, drop, length}
 use Rattle.spe_model.specs.Tree.{node_at}
 use Rattle.spe_model.specs.Verdict.{LeafRow}
 use Rattle.spe_model.specs.Walk.{levels_at_leaf, table_marks, walk_rows}
@@ -22,12 +22,12 @@ invariant-walk_table_from-children g l = record {
   floor : g.V.RowVisitor.floor l.fn.visitor ≤ low_of l.fn.low → g.V.RowVisitor.floor l.visitor ≤ low_of l.above;
   under : low_of l.fn.low ≤ high_of l.high → low_of l.above ≤ high_of l.high;
   wanted : g.V.RowVisitor.wanted l.visitor ≡ g.V.RowVisitor.wanted l.fn.visitor;
-  fanned : Each g.S.Pages l.space (λ usable pages. (stand holder : ℕ) (later : List LeafRow) → node_at usable pages l.page ≡ Ok l.fn.node
+  fanned : Each g.S.Pages l.space (λ usable pages. (stand holder : ℕ) (later : List LeafRow) → node_at usable pages l.page ≡ Ok l.node
       → IsStand l.fn.leaf stand (levels_at_leaf usable pages l.levels l.page) → g.V.RowVisitor.floor l.fn.visitor ≤ low_of l.fn.low
       → IsTableFanned g.V.RowVisitor usable pages l.fn.met l.met l.visitor (g.V.RowVisitor.outlook l.fn.visitor (walk_rows usable pages l.levels l.page ++ later)) later
       (behind_read (table_marks (g.V.RowVisitor.outlook l.fn.visitor (walk_rows usable pages l.levels l.page ++ later)).marks usable pages stand l.levels (low_of l.fn.low) (high_of l.high) holder l.page))
-      stand l.levels (low_of l.above) (high_of l.high) l.page l.stand l.left l.right);
+      stand l.levels (low_of l.above) (high_of l.high) l.page l.stand (drop l.index l.node.cells) l.node.right);
 }
 
 abbrev pub decreases-walk_table_from-children : goal.decreases-walk_table_from-children
-decreases-walk_table_from-children g l = length l.left
+decreases-walk_table_from-children g l = length (drop l.index l.node.cells)

@@ -1,21 +1,34 @@
-use Rattle.std.proofs.Common.{◌∙◌, ◌∷◌, arith}
+use Rattle.std.proofs.Common.{◌∙◌, [], ◌∷◌, ◌++◌, arith}
 use Rattle.spe_model.specs.Tree.{payload_of}
+use Rattle.spe_model.specs.Walk.{Keeps, cell_chain, is_within_bounds}
+use Rattle.spe_format.specs.View.{cell_seen}
 use Rattle.spe_check.specs.MetPages.{has_met}
 use Rattle.spe_check.specs.TableTree.{low_of, high_of, row_of}
 use Rattle.spe_check.proofs.TableLemmas.{bound_halt, chain_halt, row_last}
+use Rattle.spe_check.proofs.TriesLemmas.{tries_then}
 use Rattle.spe_check.proofs.table_tree.try_row.Goals as goal
 
 pub returns-in-Err-clause-tried : goal.returns-in-Err-clause-tried
 returns-in-Err-clause-tried g c = λ usable pages shows later floor. (
-  bound_halt c.args.met.now.pages (has_met c.args.met.now) (g.V.RowVisitor.outlook c.args.visitor.now (row_of usable pages c.args.page c.args.cell.now ∷ later)).marks usable pages c.args.page
-      (low_of c.args.low) (high_of c.args.high) c.args.cell.now c.in-Err.halt (c.in-Err.ensures.tried c.args.met.now.pages (has_met c.args.met.now)),
+  bound_halt c.args.met.now.pages (has_met c.args.met.now) (g.V.RowVisitor.outlook c.args.visitor.now (row_of usable pages c.args.page (cell_seen c.args.parts.now) ∷ later)).marks usable pages c.args.page
+      (low_of c.args.low) (high_of c.args.high) (cell_seen c.args.parts.now) c.in-Err.halt (c.in-Err.ensures.tried c.args.met.now.pages (has_met c.args.met.now)),
   tt,
 )
 
+pub returns-then-is_local-clause-tried : goal.returns-then-is_local-clause-tried
+returns-then-is_local-clause-tried g c = λ usable pages shows later floor.
+    let cell = cell_seen c.args.parts.now in
+    let tried = c.try_local.ensures.tried c.args.met.now.pages (has_met c.args.met.now) usable pages later (omega (arith, floor, c.in-Ok.ensures.above)) in (
+      tries_then {X = Unit {0}} {Y = Unit {0}} c.args.met.now.pages (has_met c.args.met.now) (has_met c.args.met.now) (has_met c.args.met.now) (Keeps c.args.page 6 (is_within_bounds (low_of c.args.low) (high_of c.args.high) cell) ∷ [])
+          (cell_chain usable pages c.args.page cell ++ (g.V.RowVisitor.outlook c.args.visitor.now (row_of usable pages c.args.page cell ∷ later)).marks c.args.page cell.key (payload_of usable pages cell)) tt c.try_local.result
+          (c.in-Ok.ensures.tried c.args.met.now.pages (has_met c.args.met.now)) tried.0,
+      tried.1,
+    )
+
 pub returns-in-Err-take_payload-clause-tried : goal.returns-in-Err-take_payload-clause-tried
 returns-in-Err-take_payload-clause-tried g c = λ usable pages shows later floor. (
-  chain_halt c.args.met.now.pages (has_met c.args.met.now) (has_met c.take_payload.new.met) (g.V.RowVisitor.outlook c.args.visitor.now (row_of usable pages c.args.page c.args.cell.now ∷ later)).marks usable pages c.args.page
-      (low_of c.args.low) (high_of c.args.high) c.args.cell.now c.in-Err-take_payload.halt (c.in-Ok.ensures.tried c.args.met.now.pages (has_met c.args.met.now))
+  chain_halt c.args.met.now.pages (has_met c.args.met.now) (has_met c.take_payload.new.met) (g.V.RowVisitor.outlook c.args.visitor.now (row_of usable pages c.args.page (cell_seen c.args.parts.now) ∷ later)).marks usable pages c.args.page
+      (low_of c.args.low) (high_of c.args.high) (cell_seen c.args.parts.now) c.in-Err-take_payload.halt (c.in-Ok.ensures.tried c.args.met.now.pages (has_met c.args.met.now))
       (c.in-Err-take_payload.ensures.tried usable pages shows).0,
   tt,
 )
@@ -23,7 +36,7 @@ returns-in-Err-take_payload-clause-tried g c = λ usable pages shows later floor
 pub returns-clause-tried : goal.returns-clause-tried
 returns-clause-tried g c = λ usable pages shows later floor.
     let taken = c.in-Ok-take_payload.ensures.tried usable pages shows in
-    let cell = c.args.cell.now in
+    let cell = (cell_seen c.args.parts.now) in
     let visited = c.visit_row.ensures.tried c.args.met.now.pages (has_met c.take_payload.new.met) (payload_of usable pages cell) later
     (λ wanted. c.as_slice.ensures.value ∙ taken.1 (c.wants-wanted.ensures.value ∙ wanted)) (omega (arith, floor, c.in-Ok.ensures.above)) in (
       row_last c.args.met.now.pages (has_met c.args.met.now) (has_met c.take_payload.new.met) (g.V.RowVisitor.outlook c.args.visitor.now (row_of usable pages c.args.page cell ∷ later)).marks usable pages c.args.page

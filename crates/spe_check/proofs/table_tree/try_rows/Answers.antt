@@ -1,10 +1,9 @@
-use Rattle.std.proofs.Common.{◌∙◌, ◌+◌, ◌++◌, drop, arith, sym}
-use Rattle.std.proofs.lemmas.Grind.{common_steps}
+use Rattle.std.proofs.Common.{◌∙◌, ◌+◌, ◌++◌, drop, arith, refl, sym}
 use Rattle.spe_model.specs.Tree.{rank}
 use Rattle.spe_model.specs.Walk.{leaf_marks, leaf_rows}
 use Rattle.spe_check.specs.TableTree.{low_of, high_of}
-use Rattle.spe_check.proofs.IndexLemmas.{front_is}
-use Rattle.spe_check.proofs.TableLemmas.{row_next, row_halt, rows_end, rows_rest}
+use Rattle.spe_format.specs.View.{cell_seen}
+use Rattle.spe_check.proofs.TableLemmas.{none_left, row_next, row_halt, rows_end, rows_rest}
 use Rattle.spe_check.proofs.ShownLemmas.{shows_before, walked_both}
 use Rattle.spe_check.proofs.table_tree.try_rows.Goals as goal
 
@@ -12,12 +11,12 @@ pub returns-in-Err-clause-tried : goal.returns-in-Err-clause-tried
 returns-in-Err-clause-tried g c = λ usable pages shows later floor.
     let v = g.V.RowVisitor in
     let now = shows_before g.S.Pages c.rows.space c.try_row.new.space usable pages c.in-Err.ensures.walked.reads shows in
-    let front = front_is c.rows.left.now c.cell-item.result c.in-len1-up.len_at_least c.cell-item.is in
-    let outlook = v.outlook c.args.visitor.now (leaf_rows usable pages c.args.page c.args.cells.now ++ later) in
-    let tried = c.in-Err.ensures.tried usable pages shows (leaf_rows usable pages c.args.page (drop 1 c.rows.left.now) ++ later) (c.rows.invariant.floor floor) in (
+    let front = c.in-Some.ensures.front in
+    let outlook = v.outlook c.args.visitor.now (leaf_rows usable pages c.args.page c.args.node.now.cells ++ later) in
+    let tried = c.in-Err.ensures.tried usable pages shows (leaf_rows usable pages c.args.page (drop (c.rows.index + 1) c.args.node.now.cells) ++ later) (c.rows.invariant.floor floor) in (
       row_halt v usable pages c.args.met.now c.rows.met c.try_row.new.met c.rows.visitor outlook later
-          (leaf_marks outlook.marks usable pages c.args.page (low_of c.args.low) (high_of c.args.high) c.args.cells.now) c.args.page (low_of c.rows.above) (high_of c.args.high)
-          c.rows.left.now (drop 1 c.rows.left.now) c.cell-item.result c.in-Err.halt c.rows.invariant.walked.pages front (c.rows.invariant.rowed usable pages now later floor) tried.0,
+          (leaf_marks outlook.marks usable pages c.args.page (low_of c.args.low) (high_of c.args.high) c.args.node.now.cells) c.args.page (low_of c.rows.above) (high_of c.args.high)
+          (drop c.rows.index c.args.node.now.cells) (drop (c.rows.index + 1) c.args.node.now.cells) (cell_seen c.in-Some.parts) c.in-Err.halt c.rows.invariant.walked.pages front (c.rows.invariant.rowed usable pages now later floor) tried.0,
       tt,
     )
 
@@ -34,20 +33,20 @@ rows-preserved g c = record {
   rowed = λ usable pages shows later floor.
       let v = g.V.RowVisitor in
       let now = shows_before g.S.Pages c.rows.space c.try_row.new.space usable pages c.in-Ok.ensures.walked.reads shows in
-      let front = front_is c.rows.left.now c.cell-item.result c.in-len1-up.len_at_least c.cell-item.is in
-      let outlook = v.outlook c.args.visitor.now (leaf_rows usable pages c.args.page c.args.cells.now ++ later) in
-      let all = leaf_marks outlook.marks usable pages c.args.page (low_of c.args.low) (high_of c.args.high) c.args.cells.now in
-      let tried = c.in-Ok.ensures.tried usable pages shows (leaf_rows usable pages c.args.page (drop 1 c.rows.left.now) ++ later) (c.rows.invariant.floor floor) in
-      rows_rest v usable pages c.args.met.now c.try_row.new.met c.try_row.new.visitor outlook later all c.args.page (rank c.cell-item.result.key + 1) (low_of c.key_of-above.result) (high_of c.args.high)
-      (drop 1 c.rows.left.now) _ (sym c.key_of-above.ensures.low) (grind (arith, common_steps))
+      let front = c.in-Some.ensures.front in
+      let outlook = v.outlook c.args.visitor.now (leaf_rows usable pages c.args.page c.args.node.now.cells ++ later) in
+      let all = leaf_marks outlook.marks usable pages c.args.page (low_of c.args.low) (high_of c.args.high) c.args.node.now.cells in
+      let tried = c.in-Ok.ensures.tried usable pages shows (leaf_rows usable pages c.args.page (drop (c.rows.index + 1) c.args.node.now.cells) ++ later) (c.rows.invariant.floor floor) in
+      rows_rest v usable pages c.args.met.now c.try_row.new.met c.try_row.new.visitor outlook later all c.args.page (rank (cell_seen c.in-Some.parts).key + 1) (low_of c.key_of-above.result) (high_of c.args.high)
+      (drop (c.rows.index + 1) c.args.node.now.cells) _ (sym c.key_of-above.ensures.low) refl
       (row_next v usable pages c.args.met.now c.rows.met c.try_row.new.met c.rows.visitor c.try_row.new.visitor outlook later all c.args.page (low_of c.rows.above) (high_of c.args.high)
-      c.rows.left.now (drop 1 c.rows.left.now) c.cell-item.result c.rows.invariant.walked.pages front (c.rows.invariant.rowed usable pages now later floor) tried.0 tried.1);
+      (drop c.rows.index c.args.node.now.cells) (drop (c.rows.index + 1) c.args.node.now.cells) (cell_seen c.in-Some.parts) c.rows.invariant.walked.pages front (c.rows.invariant.rowed usable pages now later floor) tried.0 tried.1);
 }
 
 pub returns-clause-tried : goal.returns-clause-tried
 returns-clause-tried g c = λ usable pages shows later floor.
     let v = g.V.RowVisitor in
-    let outlook = v.outlook c.args.visitor.now (leaf_rows usable pages c.args.page c.args.cells.now ++ later) in
+    let outlook = v.outlook c.args.visitor.now (leaf_rows usable pages c.args.page c.args.node.now.cells ++ later) in
     rows_end v usable pages c.args.met.now c.rows.met c.rows.visitor outlook later
-    (leaf_marks outlook.marks usable pages c.args.page (low_of c.args.low) (high_of c.args.high) c.args.cells.now) c.args.page (low_of c.rows.above) (high_of c.args.high) c.args.levels
-    c.rows.left.now c.in_default.len_below (c.rows.invariant.rowed usable pages shows later floor)
+    (leaf_marks outlook.marks usable pages c.args.page (low_of c.args.low) (high_of c.args.high) c.args.node.now.cells) c.args.page (low_of c.rows.above) (high_of c.args.high) c.args.levels
+    (drop c.rows.index c.args.node.now.cells) (none_left (drop c.rows.index c.args.node.now.cells) c.in_default.ensures.front) (c.rows.invariant.rowed usable pages shows later floor)

@@ -1,4 +1,4 @@
-use Rattle.std.proofs.Common.{◌≡◌, ◌≤◌, ◌++◌, List, length}
+use Rattle.std.proofs.Common.{◌≡◌, ◌≤◌, ◌++◌, List, drop, length}
 use Rattle.spe_model.specs.Verdict.{LeafRow}
 use Rattle.spe_model.specs.Walk.{leaf_marks, leaf_rows}
 use Rattle.spe_check.specs.Shown.{Each, Walked}
@@ -14,10 +14,10 @@ invariant-rows g l = record {
   under : low_of l.fn.low ≤ high_of l.high → low_of l.above ≤ high_of l.high;
   wanted : g.V.RowVisitor.wanted l.visitor ≡ g.V.RowVisitor.wanted l.fn.visitor;
   rowed : Each g.S.Pages l.space (λ usable pages. (later : List LeafRow) → g.V.RowVisitor.floor l.fn.visitor ≤ low_of l.fn.low
-      → IsRowed g.V.RowVisitor usable pages l.fn.met l.met l.visitor (g.V.RowVisitor.outlook l.fn.visitor (leaf_rows usable pages l.page l.cells ++ later)) later
-      (leaf_marks (g.V.RowVisitor.outlook l.fn.visitor (leaf_rows usable pages l.page l.cells ++ later)).marks usable pages l.page (low_of l.fn.low) (high_of l.high) l.cells)
-      l.page (low_of l.above) (high_of l.high) l.left);
+      → IsRowed g.V.RowVisitor usable pages l.fn.met l.met l.visitor (g.V.RowVisitor.outlook l.fn.visitor (leaf_rows usable pages l.page l.node.cells ++ later)) later
+      (leaf_marks (g.V.RowVisitor.outlook l.fn.visitor (leaf_rows usable pages l.page l.node.cells ++ later)).marks usable pages l.page (low_of l.fn.low) (high_of l.high) l.node.cells)
+      l.page (low_of l.above) (high_of l.high) (drop l.index l.node.cells));
 }
 
 abbrev pub decreases-rows : goal.decreases-rows
-decreases-rows g l = length l.left
+decreases-rows g l = length (drop l.index l.node.cells)

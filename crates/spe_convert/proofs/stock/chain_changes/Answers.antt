@@ -1,6 +1,6 @@
 use Rattle.std.proofs.Common.{◌≡◌, ◌∙◌, ◌-◌, ◌++◌, ◌∷◌, ℕ, [], All, Option, ap, sym, subst, arith, length, take, drop, map}
 use Rattle.std.specs.Prelude.{get_or}
-use Rattle.std.proofs.lemmas.List.{length-drop, take_all}
+use Rattle.std.proofs.lemmas.List.{length-drop, map-append, take_all}
 use Rattle.std.proofs.lemmas.List.Elements.{All-append, All-cons, All-drop, All-nil}
 use Rattle.spe_model.specs.Paging.{Paging}
 use Rattle.spe_model.specs.Standing.{IsOneOf}
@@ -8,9 +8,9 @@ use Rattle.spe_model.specs.Trace.{History}
 use Rattle.spe_rewrite.specs.declared.change.Change.{Change}
 use Rattle.spe_convert.specs.Changes.{change_of}
 use Rattle.spe_convert.specs.Dealt.{chained}
-use Rattle.spe_convert.specs.Made.{HaveSize, trunk_of}
+use Rattle.spe_convert.specs.Made.{HaveSize, changed_pages, trunk_of}
 use Rattle.spe_convert.specs.Reading.{WhereHeld, usable_of}
-use Rattle.spe_convert.specs.Trunk.{room}
+use Rattle.spe_convert.specs.Trunk.{Trunk, room}
 use Rattle.spe_convert.proofs.ReadLemmas.{where_both}
 use Rattle.spe_convert.proofs.StockLemmas.{chain_turn, drop_min, take_min}
 use Rattle.spe_convert.proofs.stock.chain_changes.Goals as goal
@@ -43,6 +43,10 @@ loop-left-preserved g c =
       operations = c.in-Ok.ensures.operations ∙ c.loop-left.invariant.operations;
       sized = λ old. subst (HaveSize found.page_size) (sym c.in_ok-push.ensures.items)
           (All-append P c.loop-left.changes.items (c.in-Ok.change ∷ []) (c.loop-left.invariant.sized old) (All-cons P c.in-Ok.change [] c.in-Ok.ensures.sized (All-nil P)));
+      numbers = chain_turn (room usable) (λ (t : Trunk). t.page) left c.split_at.result.0.now c.split_at.result.1.now c.in-Ok.change.page (changed_pages c.args.changes.now.items)
+          (changed_pages c.loop-left.changes.items) (changed_pages c.push.new.self.items) (chained (room usable) (length c.args.free.now) c.args.free.now)
+          c.in-len1-up.len_at_least leaves more c.in-Ok.ensures.page
+          (ap changed_pages c.in_ok-push.ensures.items ∙ map-append (λ (d : Change). d.page) c.loop-left.changes.items (c.in-Ok.change ∷ [])) c.loop-left.invariant.numbers;
       made = where_both told found K R _
           (λ pages kept is. chain_turn (room usable) (change_of usable pages) left c.split_at.result.0.now c.split_at.result.1.now c.in-Ok.change c.args.changes.now.items c.loop-left.changes.items
           c.push.new.self.items (chained (room usable) (length c.args.free.now) c.args.free.now) c.in-len1-up.len_at_least leaves more (is ∙ ap (made pages) c.first_of.ensures) c.in_ok-push.ensures.items kept)

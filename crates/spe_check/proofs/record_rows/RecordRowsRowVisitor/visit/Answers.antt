@@ -1,4 +1,4 @@
-use Rattle.std.proofs.Common.{Bool, List, [], ◌∷◌, subst}
+use Rattle.std.proofs.Common.{Bool, [], ◌∷◌, subst}
 use Rattle.spe_model.specs.Walk.{Keeps}
 use Rattle.spe_check.specs.Tries.{Tries}
 use Rattle.spe_check.proofs.TriesLemmas.{the_err}
