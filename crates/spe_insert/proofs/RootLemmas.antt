@@ -1,6 +1,5 @@
 -- A root that gets a level more.
 use Rattle.std.proofs.Common.{◌≡◌, ◌≢◌, ℕ, ℤ, zero, suc, ◌+◌, ◌*◌, ◌<◌, ◌≤◌, ◌∙◌, List, [], ◌∷◌, length, Bool, true, not, Option, Ok, refl, sym, ap, subst, arith, unwrap_or}
-
 use Rattle.std.proofs.lemmas.Bool.{le-leb}
 use Rattle.spe_model.specs.declared.page.Cell.{Cell}
 use Rattle.spe_model.specs.declared.page.Kind.TheVariants.{TableInterior}
@@ -17,11 +16,9 @@ use Rattle.spe_frame.specs.Held.{AreHeld, Puts, Shifts}
 use Rattle.spe_frame.specs.Laws.{ShiftsAlike, ShiftsBeside, ShiftsBoth, SparesMore}
 use Rattle.spe_frame.specs.Times.{AreSingle}
 use Rattle.spe_frame.proofs.TimesLemmas.{here}
-
 use Rattle.spe_cut.specs.Parts.{run_cells}
 use Rattle.spe_cut.specs.Rows.{with_row}
 use Rattle.spe_cut.specs.Run.{Run, alone}
-
 use Rattle.spe_cut.proofs.SizeLemmas.{interior_size}
 use Rattle.spe_insert.specs.Below.{Becomes, IsPlaceFor, first_of, pages_for}
 use Rattle.spe_insert.specs.Insert.{Added, IsOwn, marked_root, most_pages}
@@ -29,7 +26,6 @@ use Rattle.spe_insert.specs.Node.{LaysNode}
 use Rattle.spe_insert.specs.Root.{Raises, led_by}
 use Rattle.spe_insert.proofs.CellLemmas.{shifts_more}
 use Rattle.spe_insert.proofs.LeafLemmas.{node_there}
-
 use Rattle.spe_insert.proofs.SortLemmas.{node_sort}
 
 -- the second of two pages that are held is another

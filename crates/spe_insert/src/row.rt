@@ -38,8 +38,8 @@ pub fn insert<S: PageSpace>(
     ensures idle { IfOk result (λ added. added ≡ false → Reads S.Pages space.old space.new) }
     ensures spares { WhereOwn S.Pages space.old space.new root (λ pages tree.
         Spares S.Pages space.old space.new pages
-            (pages_of_tree (S.Pages.used space.old) (sight S.Pages space.old pages) tree)
-            (most_pages (S.Pages.used space.old) (length payload.now))) }
+        (pages_of_tree (S.Pages.used space.old) (sight S.Pages space.old pages) tree)
+        (most_pages (S.Pages.used space.old) (length payload.now))) }
     ensures likely { WhereOwn S.Pages space.old space.new root (λ pages tree.
         S.Pages.sealed space.old ≡ false → IsLikelyOfTree S.Pages space.new pages result) }
     ensures kept { Keeps S.Pages space.old space.new }

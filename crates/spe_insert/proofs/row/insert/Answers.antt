@@ -25,8 +25,8 @@ returns-in-Ok-None-clause-there g c = λ same pages tree agrees own.
     let low_row : rank rowid < most = rank_below rowid (subst (λ (z : ℤ). mag z < 9223372036854775808) (sym same_row) c.ranges.rowid.sfits) in
     let payload = c.args.payload.now in
     subst (Present g.S.Pages s m pages tree) same_row (for_tree g.S.Pages s pages root tree (λ t. Present g.S.Pages s m pages t rowid) own (λ height own_.
-      let is = c.in-Ok-None.ensures.there c.in-Ok-None.field-0-is pages height 0 most agrees (own_low g.S.Pages s pages root height own_) (own_place g.S.Pages s pages root height rowid low_row own_) in
-      record { payload = is.payload; row = is.row; shifts = is.shifts }))
+    let is = c.in-Ok-None.ensures.there c.in-Ok-None.field-0-is pages height 0 most agrees (own_low g.S.Pages s pages root height own_) (own_place g.S.Pages s pages root height rowid low_row own_) in
+    record { payload = is.payload; row = is.row; shifts = is.shifts }))
 
 pub returns-in-Ok-None-clause-spares : goal.returns-in-Ok-None-clause-spares
 returns-in-Ok-None-clause-spares g c = λ pages tree agrees own.
@@ -38,8 +38,8 @@ returns-in-Ok-None-clause-spares g c = λ pages tree agrees own.
     let low_row : rank rowid < most = rank_below rowid (subst (λ (z : ℤ). mag z < 9223372036854775808) (sym same_row) c.ranges.rowid.sfits) in
     let payload = c.args.payload.now in
     for_tree g.S.Pages s pages root tree (λ t. Spares g.S.Pages s m pages (pages_of_tree (g.S.Pages.used s) (sight g.S.Pages s pages) t) (most_pages (g.S.Pages.used s) (length payload))) own (λ height own_.
-      low_spares g.S.Pages c.shifts_law.ensures.spares_more s m pages root height payload own_
-      (c.in-Ok-None.ensures.spares pages height 0 most agrees (own_low g.S.Pages s pages root height own_) (own_place g.S.Pages s pages root height rowid low_row own_)))
+    low_spares g.S.Pages c.shifts_law.ensures.spares_more s m pages root height payload own_
+    (c.in-Ok-None.ensures.spares pages height 0 most agrees (own_low g.S.Pages s pages root height own_) (own_place g.S.Pages s pages root height rowid low_row own_)))
 
 pub returns-in-Err-clause-spares : goal.returns-in-Err-clause-spares
 returns-in-Err-clause-spares g c = λ pages tree agrees own.
@@ -51,8 +51,8 @@ returns-in-Err-clause-spares g c = λ pages tree agrees own.
     let low_row : rank rowid < most = rank_below rowid (subst (λ (z : ℤ). mag z < 9223372036854775808) (sym same_row) c.ranges.rowid.sfits) in
     let payload = c.args.payload.now in
     for_tree g.S.Pages s pages root tree (λ t. Spares g.S.Pages s m pages (pages_of_tree (g.S.Pages.used s) (sight g.S.Pages s pages) t) (most_pages (g.S.Pages.used s) (length payload))) own (λ height own_.
-      low_spares g.S.Pages c.shifts_law.ensures.spares_more s m pages root height payload own_
-      (c.in-Err.ensures.spares pages height 0 most agrees (own_low g.S.Pages s pages root height own_) (own_place g.S.Pages s pages root height rowid low_row own_)))
+    low_spares g.S.Pages c.shifts_law.ensures.spares_more s m pages root height payload own_
+    (c.in-Err.ensures.spares pages height 0 most agrees (own_low g.S.Pages s pages root height own_) (own_place g.S.Pages s pages root height rowid low_row own_)))
 
 pub returns-then-is_empty-clause-put : goal.returns-then-is_empty-clause-put
 returns-then-is_empty-clause-put g c = λ same pages tree agrees own.
@@ -65,12 +65,12 @@ returns-then-is_empty-clause-put g c = λ same pages tree agrees own.
     let payload = c.args.payload.now in
     let none : (run_of c.in-Ok-Some.run').cells ≡ [] = sym c.as_slice.ensures ∙ none_there c.as_slice.result.now (sym c.is_empty.ensures ∙ c.if-is_empty.true) in
     subst (λ (z : ℤ). Added g.S.Pages s m pages root tree z payload) same_row (for_tree g.S.Pages s pages root tree (λ t. Added g.S.Pages s m pages root t rowid payload) own (λ height own_.
-      let low : IsLow g.S.Pages s m pages root height rowid payload (run_of c.in-Ok-Some.run') = record {
-        wide = omega (arith, c.usable-usable.ensures.range.0, c.usable-usable.ensures.value);
-        own = own_;
-        becomes = some_of c.in-Ok-Some.field-0 c.in-Ok-Some.run' (PutWhere g.S.Pages s m root rowid payload) c.in-Ok-Some.field-0-is c.in-Ok-Some.ensures.put pages height 0 most agrees (own_low g.S.Pages s pages root height own_) (own_place g.S.Pages s pages root height rowid low_row own_);
-      } in
-      added_alone g.S.Pages c.shifts_law.ensures.spares_more s m pages root height rowid payload (run_of c.in-Ok-Some.run') low.wide own_ low.becomes none))
+    let low : IsLow g.S.Pages s m pages root height rowid payload (run_of c.in-Ok-Some.run') = record {
+      wide = omega (arith, c.usable-usable.ensures.range.0, c.usable-usable.ensures.value);
+      own = own_;
+      becomes = some_of c.in-Ok-Some.field-0 c.in-Ok-Some.run' (PutWhere g.S.Pages s m root rowid payload) c.in-Ok-Some.field-0-is c.in-Ok-Some.ensures.put pages height 0 most agrees (own_low g.S.Pages s pages root height own_) (own_place g.S.Pages s pages root height rowid low_row own_);
+    } in
+    added_alone g.S.Pages c.shifts_law.ensures.spares_more s m pages root height rowid payload (run_of c.in-Ok-Some.run') low.wide own_ low.becomes none))
 
 pub returns-then-is_empty-clause-spares : goal.returns-then-is_empty-clause-spares
 returns-then-is_empty-clause-spares g c = λ pages tree agrees own.
@@ -82,8 +82,8 @@ returns-then-is_empty-clause-spares g c = λ pages tree agrees own.
     let low_row : rank rowid < most = rank_below rowid (subst (λ (z : ℤ). mag z < 9223372036854775808) (sym same_row) c.ranges.rowid.sfits) in
     let payload = c.args.payload.now in
     for_tree g.S.Pages s pages root tree (λ t. Spares g.S.Pages s m pages (pages_of_tree (g.S.Pages.used s) (sight g.S.Pages s pages) t) (most_pages (g.S.Pages.used s) (length payload))) own (λ height own_.
-      low_spares g.S.Pages c.shifts_law.ensures.spares_more s m pages root height payload own_
-      (c.in-Ok-Some.ensures.spares pages height 0 most agrees (own_low g.S.Pages s pages root height own_) (own_place g.S.Pages s pages root height rowid low_row own_)))
+    low_spares g.S.Pages c.shifts_law.ensures.spares_more s m pages root height payload own_
+    (c.in-Ok-Some.ensures.spares pages height 0 most agrees (own_low g.S.Pages s pages root height own_) (own_place g.S.Pages s pages root height rowid low_row own_)))
 
 pub returns-then-not-ascends_in-clause-spares : goal.returns-then-not-ascends_in-clause-spares
 returns-then-not-ascends_in-clause-spares g c = λ pages tree agrees own.
@@ -95,8 +95,8 @@ returns-then-not-ascends_in-clause-spares g c = λ pages tree agrees own.
     let low_row : rank rowid < most = rank_below rowid (subst (λ (z : ℤ). mag z < 9223372036854775808) (sym same_row) c.ranges.rowid.sfits) in
     let payload = c.args.payload.now in
     for_tree g.S.Pages s pages root tree (λ t. Spares g.S.Pages s m pages (pages_of_tree (g.S.Pages.used s) (sight g.S.Pages s pages) t) (most_pages (g.S.Pages.used s) (length payload))) own (λ height own_.
-      low_spares g.S.Pages c.shifts_law.ensures.spares_more s m pages root height payload own_
-      (c.in-Ok-Some.ensures.spares pages height 0 most agrees (own_low g.S.Pages s pages root height own_) (own_place g.S.Pages s pages root height rowid low_row own_)))
+    low_spares g.S.Pages c.shifts_law.ensures.spares_more s m pages root height payload own_
+    (c.in-Ok-Some.ensures.spares pages height 0 most agrees (own_low g.S.Pages s pages root height own_) (own_place g.S.Pages s pages root height rowid low_row own_)))
 
 pub returns-then-not-ascends_in-clause-likely : goal.returns-then-not-ascends_in-clause-likely
 returns-then-not-ascends_in-clause-likely g c = λ pages tree agrees own unsealed.
@@ -108,13 +108,13 @@ returns-then-not-ascends_in-clause-likely g c = λ pages tree agrees own unseale
     let low_row : rank rowid < most = rank_below rowid (subst (λ (z : ℤ). mag z < 9223372036854775808) (sym same_row) c.ranges.rowid.sfits) in
     let payload = c.args.payload.now in
     for_tree g.S.Pages s pages root tree (λ t. ⊥) own (λ height own_.
-      let low : IsLow g.S.Pages s m pages root height rowid payload (run_of c.in-Ok-Some.run') = record {
-        wide = omega (arith, c.usable-usable.ensures.range.0, c.usable-usable.ensures.value);
-        own = own_;
-        becomes = some_of c.in-Ok-Some.field-0 c.in-Ok-Some.run' (PutWhere g.S.Pages s m root rowid payload) c.in-Ok-Some.field-0-is c.in-Ok-Some.ensures.put pages height 0 most agrees (own_low g.S.Pages s pages root height own_) (own_place g.S.Pages s pages root height rowid low_row own_);
-      } in
-      let up : ascends (run_of c.in-Ok-Some.run').cells ≡ true = run_ascends (g.S.Pages.used s) (sight g.S.Pages m pages) height 0 most (run_of c.in-Ok-Some.run') low.becomes.is in
-      absurd cc)
+    let low : IsLow g.S.Pages s m pages root height rowid payload (run_of c.in-Ok-Some.run') = record {
+      wide = omega (arith, c.usable-usable.ensures.range.0, c.usable-usable.ensures.value);
+      own = own_;
+      becomes = some_of c.in-Ok-Some.field-0 c.in-Ok-Some.run' (PutWhere g.S.Pages s m root rowid payload) c.in-Ok-Some.field-0-is c.in-Ok-Some.ensures.put pages height 0 most agrees (own_low g.S.Pages s pages root height own_) (own_place g.S.Pages s pages root height rowid low_row own_);
+    } in
+    let up : ascends (run_of c.in-Ok-Some.run').cells ≡ true = run_ascends (g.S.Pages.used s) (sight g.S.Pages m pages) height 0 most (run_of c.in-Ok-Some.run') low.becomes.is in
+    absurd cc)
 
 pub returns-in-Ok-clause-put : goal.returns-in-Ok-clause-put
 returns-in-Ok-clause-put g c = λ same pages tree agrees own.
@@ -130,13 +130,13 @@ returns-in-Ok-clause-put g c = λ same pages tree agrees own.
     let agrees_m = c.in-Ok.ensures.kept.earlier pages agrees in
     let some : 1 ≤ length run.cells = subst (λ (cells : List Cell). 1 ≤ length cells) c.as_slice.ensures (some_there c.as_slice.result.now (sym c.is_empty.ensures ∙ c.if-is_empty.false)) in
     subst (λ (z : ℤ). Added g.S.Pages s e pages root tree z payload) same_row (for_tree g.S.Pages s pages root tree (λ t. Added g.S.Pages s e pages root t rowid payload) own (λ height own_.
-      let low : IsLow g.S.Pages s m pages root height rowid payload (run_of c.in-Ok-Some.run') = record {
-        wide = omega (arith, c.usable-usable.ensures.range.0, c.usable-usable.ensures.value);
-        own = own_;
-        becomes = some_of c.in-Ok-Some.field-0 c.in-Ok-Some.run' (PutWhere g.S.Pages s m root rowid payload) c.in-Ok-Some.field-0-is c.in-Ok-Some.ensures.put pages height 0 most agrees_m (own_low g.S.Pages s pages root height own_) (own_place g.S.Pages s pages root height rowid low_row own_);
-      } in
-      let raised = c.in-Ok.ensures.raised pages agrees low.becomes.shifts.ready (root_held g.S.Pages s m pages root height rowid payload run low c.shifts_law.ensures.apart) (root_later g.S.Pages s m pages root height rowid payload run low) in
-      added_raised g.S.Pages s m pages root height rowid payload run low e some raised c.shifts_law.ensures.both c.shifts_law.ensures.beside c.shifts_law.ensures.alike c.shifts_law.ensures.spares_more))
+    let low : IsLow g.S.Pages s m pages root height rowid payload (run_of c.in-Ok-Some.run') = record {
+      wide = omega (arith, c.usable-usable.ensures.range.0, c.usable-usable.ensures.value);
+      own = own_;
+      becomes = some_of c.in-Ok-Some.field-0 c.in-Ok-Some.run' (PutWhere g.S.Pages s m root rowid payload) c.in-Ok-Some.field-0-is c.in-Ok-Some.ensures.put pages height 0 most agrees_m (own_low g.S.Pages s pages root height own_) (own_place g.S.Pages s pages root height rowid low_row own_);
+    } in
+    let raised = c.in-Ok.ensures.raised pages agrees low.becomes.shifts.ready (root_held g.S.Pages s m pages root height rowid payload run low c.shifts_law.ensures.apart) (root_later g.S.Pages s m pages root height rowid payload run low) in
+    added_raised g.S.Pages s m pages root height rowid payload run low e some raised c.shifts_law.ensures.both c.shifts_law.ensures.beside c.shifts_law.ensures.alike c.shifts_law.ensures.spares_more))
 
 pub returns-in-Ok-clause-spares : goal.returns-in-Ok-clause-spares
 returns-in-Ok-clause-spares g c = λ pages tree agrees own. (returns-in-Ok-clause-put g c refl pages tree agrees own).shifts.spares
@@ -154,13 +154,13 @@ returns-clause-spares g c = λ pages tree agrees own.
     let run = run_of c.in-Ok-Some.run' in
     let agrees_m = c.in-Err-raise_root.ensures.kept.earlier pages agrees in
     for_tree g.S.Pages s pages root tree (λ t. Spares g.S.Pages s e pages (pages_of_tree (g.S.Pages.used s) (sight g.S.Pages s pages) t) (most_pages (g.S.Pages.used s) (length payload))) own (λ height own_.
-      let low : IsLow g.S.Pages s m pages root height rowid payload (run_of c.in-Ok-Some.run') = record {
-        wide = omega (arith, c.usable-usable.ensures.range.0, c.usable-usable.ensures.value);
-        own = own_;
-        becomes = some_of c.in-Ok-Some.field-0 c.in-Ok-Some.run' (PutWhere g.S.Pages s m root rowid payload) c.in-Ok-Some.field-0-is c.in-Ok-Some.ensures.put pages height 0 most agrees_m (own_low g.S.Pages s pages root height own_) (own_place g.S.Pages s pages root height rowid low_row own_);
-      } in
-      let fails = c.in-Err-raise_root.ensures.spares pages agrees low.becomes.shifts.ready (root_held g.S.Pages s m pages root height rowid payload run low c.shifts_law.ensures.apart) (root_later g.S.Pages s m pages root height rowid payload run low) in
-      raise_spares g.S.Pages s m pages root height rowid payload run low c.shifts_law.ensures.spares c.shifts_law.ensures.spares_beside c.shifts_law.ensures.spares_alike c.shifts_law.ensures.spares_more e fails)
+    let low : IsLow g.S.Pages s m pages root height rowid payload (run_of c.in-Ok-Some.run') = record {
+      wide = omega (arith, c.usable-usable.ensures.range.0, c.usable-usable.ensures.value);
+      own = own_;
+      becomes = some_of c.in-Ok-Some.field-0 c.in-Ok-Some.run' (PutWhere g.S.Pages s m root rowid payload) c.in-Ok-Some.field-0-is c.in-Ok-Some.ensures.put pages height 0 most agrees_m (own_low g.S.Pages s pages root height own_) (own_place g.S.Pages s pages root height rowid low_row own_);
+    } in
+    let fails = c.in-Err-raise_root.ensures.spares pages agrees low.becomes.shifts.ready (root_held g.S.Pages s m pages root height rowid payload run low c.shifts_law.ensures.apart) (root_later g.S.Pages s m pages root height rowid payload run low) in
+    raise_spares g.S.Pages s m pages root height rowid payload run low c.shifts_law.ensures.spares c.shifts_law.ensures.spares_beside c.shifts_law.ensures.spares_alike c.shifts_law.ensures.spares_more e fails)
 
 pub returns-clause-likely : goal.returns-clause-likely
 returns-clause-likely g c = λ pages tree agrees own unsealed.
@@ -175,10 +175,10 @@ returns-clause-likely g c = λ pages tree agrees own unsealed.
     let run = run_of c.in-Ok-Some.run' in
     let agrees_m = c.in-Err-raise_root.ensures.kept.earlier pages agrees in
     for_tree g.S.Pages s pages root tree (λ t. IsLikelyOfTree {X = Bool} g.S.Pages e pages (Err (Space c.in-Err-raise_root.fault))) own (λ height own_.
-      let low : IsLow g.S.Pages s m pages root height rowid payload (run_of c.in-Ok-Some.run') = record {
-        wide = omega (arith, c.usable-usable.ensures.range.0, c.usable-usable.ensures.value);
-        own = own_;
-        becomes = some_of c.in-Ok-Some.field-0 c.in-Ok-Some.run' (PutWhere g.S.Pages s m root rowid payload) c.in-Ok-Some.field-0-is c.in-Ok-Some.ensures.put pages height 0 most agrees_m (own_low g.S.Pages s pages root height own_) (own_place g.S.Pages s pages root height rowid low_row own_);
-      } in
-      c.in-Err-raise_root.ensures.likely pages agrees low.becomes.shifts.ready (root_held g.S.Pages s m pages root height rowid payload run low c.shifts_law.ensures.apart)
-      (c.put_below.ensures.kept.sealed ∙ unsealed) (root_later g.S.Pages s m pages root height rowid payload run low))
+    let low : IsLow g.S.Pages s m pages root height rowid payload (run_of c.in-Ok-Some.run') = record {
+      wide = omega (arith, c.usable-usable.ensures.range.0, c.usable-usable.ensures.value);
+      own = own_;
+      becomes = some_of c.in-Ok-Some.field-0 c.in-Ok-Some.run' (PutWhere g.S.Pages s m root rowid payload) c.in-Ok-Some.field-0-is c.in-Ok-Some.ensures.put pages height 0 most agrees_m (own_low g.S.Pages s pages root height own_) (own_place g.S.Pages s pages root height rowid low_row own_);
+    } in
+    c.in-Err-raise_root.ensures.likely pages agrees low.becomes.shifts.ready (root_held g.S.Pages s m pages root height rowid payload run low c.shifts_law.ensures.apart)
+    (c.put_below.ensures.kept.sealed ∙ unsealed) (root_later g.S.Pages s m pages root height rowid payload run low))
