@@ -45,6 +45,8 @@ impl Disk for Blind {
 
     ghost fresh = { λ b a. tt };
 
+    ghost whole = { λ b. tt };
+
     fn attach(&mut self, name: &str) -> Result<bool, Failed> {
         let found = self.disk.attach(name);
         if found.is_err() {
