@@ -26,8 +26,8 @@ impl<D: Disk, N: Opening> Store<D, N> {
     ghost use Rattle.spe_store.specs.Pass.{OthersStay};
     ghost use Rattle.spe_store.specs.Store.{HasDone, IsRefused, OnStop};
 
-    /// Writes the head of the journal: its nonce is the low 32 bits of the number of operations made so far,
-    /// its size that of the database after all commits. Answers `Stopped` alone.
+    /// Writes the head of the journal. How many operations there were before gives the nonce, by its low
+    /// 32 bits; the size is that of the database after all commits. Answers `Stopped` alone.
     pub fn open_journal(&mut self, pass: &mut Pass) -> Result<(), StoreFault>
         requires tied { IsTied self.old pass.old }
         requires closed { open_in self.old.events pass.old.id ≡ false }
