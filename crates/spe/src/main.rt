@@ -17,6 +17,8 @@ use std::process::ExitCode;
 use std::rt::Files;
 use std::{env, io};
 
+const DONE: u8 = 0;
+
 const NO_COMMAND: u8 = 1;
 
 const REFUSED: u8 = 2;
@@ -24,6 +26,9 @@ const REFUSED: u8 = 2;
 const FAULT: u8 = 3;
 
 const MEMORY: u8 = 4;
+
+// How the line begins that is printed once free lists are in stock form.
+const RELEASED: &[u8] = b"released free ";
 
 fn words_of(rt: &(impl Env + Alloc<A = Global>)) -> io::Result<Words> {
     let mut words = Vec::new(rt.alloc());
@@ -90,6 +95,18 @@ fn tell<R: Files<File = File>>(
     }
 }
 
+// Removes the journals and their folder once free lists are in stock form, so that `sqlite3` opens the file.
+// Where that fails they stay, and all is said all the same.
+fn tidy<R: Files<File = File> + Alloc<A = Global> + Clone + Drop>(
+    status: u8,
+    line: &[u8],
+    disk: &FileDisk<'_, R>,
+) {
+    if status == DONE && line.starts_with(RELEASED) {
+        let _ = disk.remove_journals();
+    }
+}
+
 fn main(rt: HostRuntime) -> io::Result<ExitCode> {
     let mut out = OutSink::new(&rt);
     let words = match words_of(&rt) {
@@ -114,6 +131,7 @@ fn main(rt: HostRuntime) -> io::Result<ExitCode> {
         &mut out,
         &OpenGate,
     );
+    tidy(finished.status, out.head(), &disk);
     let _ = tell(&rt, finished.status, asked, out.head(), &disk);
     Ok(ExitCode::from(finished.status))
 }

@@ -7,7 +7,7 @@ pub const USAGE: &str = "usage:
   spe check DATABASE             says whether all pages are sound
   spe rows DATABASE TABLE        prints the rows of a table
   spe prepare DATABASE LISTS     not built yet: free lists for transactions, 1 to 16
-  spe release DATABASE           not built yet: the free list as SQLite has it
+  spe release DATABASE           puts the free lists back as SQLite has them
   spe run DATABASE SCRIPT..      not built yet: up to 64 scripts, each one client
       --workers N                threads, 1 to 16, else 4
       --retries N                tries to get a lock, up to 1000000, else 1000
@@ -57,11 +57,11 @@ static ADVICE: [(&str, &str); 13] = [
     ),
     (
         "refused not-built\n",
-        "this command is not built yet; check and rows are",
+        "this command is not built yet; check, rows and release are",
     ),
     (
         "refused not-prepared\n",
-        "transactions need free lists of their own: run `spe prepare DATABASE LISTS` first",
+        "the free lists are as SQLite has them, so there is nothing to release, and transactions need lists of their own: `spe prepare DATABASE LISTS` makes them",
     ),
     (
         "refused no-table\n",
@@ -85,7 +85,7 @@ static ADVICE: [(&str, &str); 13] = [
     ),
     (
         "refused corrupt ",
-        "this page is damaged, and no row is shown; `spe check DATABASE` names the rule that it breaks",
+        "this page is damaged, so the command goes no further; `spe check DATABASE` names the rule that it breaks",
     ),
     (
         "refused overlap ",

@@ -8,7 +8,7 @@ use spe_parse::Halt;
 use spe_rewrite::RewriteFault;
 use spe_script::{ScriptError, ScriptKind};
 use spe_space::{SpaceFault, TreeFault};
-use spe_store::{BeginFault, StoreFault};
+use spe_store::{BeginFault, OpenWhy, StoreFault};
 use spe_words::WordsFault;
 use std::alloc::{AllocError, Global};
 use std::fmt::Display;
@@ -280,6 +280,14 @@ static STORES: [(StoreFault, &str); 4] = [
     (StoreFault::Memory, "out of memory"),
 ];
 
+static OPENINGS: [(OpenWhy, &str); 2] = [
+    (
+        OpenWhy::Disk,
+        "the disk failed while the journals were made",
+    ),
+    (OpenWhy::Memory, "out of memory"),
+];
+
 static BEGINNINGS: [(BeginFault, &str); 3] = [
     (
         BeginFault::Stopped { op: 3 },
@@ -364,6 +372,7 @@ fn transactions(rt: HostRuntime) -> Result<(), Fail> {
     expect_each(&rt, rt.alloc(), &REWRITES)?;
     expect_each(&rt, rt.alloc(), &CONVERSIONS)?;
     expect_each(&rt, rt.alloc(), &STORES)?;
+    expect_each(&rt, rt.alloc(), &OPENINGS)?;
     expect_each(&rt, rt.alloc(), &BEGINNINGS)?;
     Ok(())
 }

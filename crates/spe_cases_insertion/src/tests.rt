@@ -1,2 +1,3 @@
 mod leaves;
+mod sizes;
 mod tables;

@@ -1,4 +1,5 @@
 mod bytes;
 mod files;
+mod prepare;
 mod read;
 mod release;

@@ -1,5 +1,6 @@
 mod build;
 mod files;
+mod inserts;
 mod order;
 mod reads;
 mod refusals;

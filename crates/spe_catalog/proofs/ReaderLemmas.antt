@@ -18,7 +18,7 @@ use Rattle.spe_space.specs.Found.{Answers}
 use Rattle.spe_space.specs.declared.fault.TreeFault.{TreeFault}
 use Rattle.spe_space.specs.declared.fault.TreeFault.TheVariants.{Space, Corrupt}
 use Rattle.spe_search.specs.declared.pairs.Pair.{Pair}
-use Rattle.spe_search.specs.Found.{HasCause}
+use Rattle.spe_search.specs.Found.{HasDamage}
 use Rattle.spe_search.specs.Leaves.{IsRead}
 use Rattle.spe_search.specs.Pairs.{pair_seen}
 use Rattle.spe_catalog.specs.Reading.{has_number, have_numbers, IsBad, unread, far, repeated, IsDamaged, AreRead, table_names}
@@ -111,7 +111,7 @@ pub walk_fault : (X Y : Type 0) (view : X → Y) (there : Y) (pages : Paging) (s
 walk_fault X Y view there pages stored (Space f) h = tt
 walk_fault X Y view there pages stored (Corrupt at) h = absurd h
 
-pub walk_cause : (X Y : Type 0) (usable : ℕ) (pages : Paging) (fault : TreeFault) → HasCause {X = X} usable pages 1 20 (Err fault) → HasSchemaCause {X = Y} usable pages (Err fault)
+pub walk_cause : (X Y : Type 0) (usable : ℕ) (pages : Paging) (fault : TreeFault) → HasDamage {X = X} usable pages 1 20 (Err fault) → HasSchemaCause {X = Y} usable pages (Err fault)
 walk_cause X Y usable pages (Space f) h = tt
 walk_cause X Y usable pages (Corrupt at) h = inr h
 

@@ -11,7 +11,7 @@ use Rattle.spe_space.specs.declared.pages.Pages.{Ghosts}
 use Rattle.spe_space.specs.declared.fault.TreeFault.{TreeFault}
 use Rattle.spe_space.specs.declared.fault.TreeFault.TheVariants.{Space, Corrupt}
 use Rattle.spe_search.specs.declared.pairs.Pair.{Pair}
-use Rattle.spe_search.specs.Found.{HasCause}
+use Rattle.spe_search.specs.Found.{HasDamage}
 use Rattle.spe_search.specs.Leaves.{IsRead}
 use Rattle.spe_search.specs.Pairs.{pair_seen}
 use Rattle.spe_catalog.specs.declared.table.Attached.{Attached}
@@ -94,7 +94,7 @@ pub record HasBadRow (usable : ℕ) (pages : Paging) (at : ℕ) : Type 0 where
 abbrev pub HasSchemaCause : {X : Type 0} (usable : ℕ) (pages : Paging) → Result X TreeFault → Type 0
 HasSchemaCause usable pages (Ok x) = Unit {0}
 HasSchemaCause usable pages (Err (Space f)) = Unit {0}
-HasSchemaCause {X} usable pages (Err (Corrupt at)) = HasBadRow usable pages at ⊎ HasCause {X = X} usable pages 1 20 (Err (Corrupt at))
+HasSchemaCause {X} usable pages (Err (Corrupt at)) = HasBadRow usable pages at ⊎ HasDamage {X = X} usable pages 1 20 (Err (Corrupt at))
 
 -- Corrupt comes only for the leaf of such a row, or as of a walk over the schema's tree
 abbrev pub NamesSchema : {P X : Type 0} (g : Ghosts P) (early late : P) (result : Result X TreeFault) → Type 0

@@ -1,9 +1,7 @@
-pub mod GivenLemmas
 pub mod TriesLemmas
 pub mod MarkLemmas
 pub mod ShownLemmas
 pub mod ChainLemmas
-pub mod FoundLemmas
 pub mod PageLemmas
 pub mod TrunkLemmas
 pub mod IndexLemmas
@@ -14,4 +12,3 @@ pub mod RowLemmas
 pub mod ObjectLemmas
 pub mod FreeLemmas
 pub mod VerdictLemmas
-pub mod Walks

@@ -13,7 +13,7 @@ use Rattle.spe_check.specs.declared.halt.Halt.{Halt}
 use Rattle.spe_check.specs.declared.halt.Halt.TheVariants.{Broken, Space}
 use Rattle.std.specs.Prelude.{IfOk}
 use Rattle.spe_model.specs.declared.page.PageFault.TheVariants.{BadType, OffsetOut, CellOut, Overlap, OutOfOrder, Memory}
-use Rattle.spe_format.specs.Answers.{Fails}
+use Rattle.spe_format.specs.Answers.{FailsPage}
 use Rattle.spe_space.specs.declared.fault.SpaceFault.{SpaceFault}
 use Rattle.spe_space.specs.declared.pages.Pages.{Ghosts}
 use Rattle.spe_space.specs.Outcome.{refusal_of}
@@ -53,7 +53,7 @@ pub node_is : (usable size at : ℕ) (pages : Paging) (page : ℕ) (bytes : List
 node_is usable size at pages page bytes same place is =
     ap (λ n. page_at (take n bytes) at) same ∙ ap (λ b. page_at (take usable b) at) is ∙ ap (λ m. page_at (take usable (pages page)) m) place
 
-pub reading_halts : (fault : PageFault) (reading : Result PageCells PageFault) (page : ℕ) (halt : Halt) → Fails fault reading → IsHaltOf page fault halt
+pub reading_halts : (fault : PageFault) (reading : Result PageCells PageFault) (page : ℕ) (halt : Halt) → FailsPage fault reading → IsHaltOf page fault halt
     → IsReading page reading (the_err PageCells halt)
 reading_halts Memory reading page halt fails is = let P : Halt → Type 0 = λ s. IsReading page reading (the_err PageCells s) in subst P (sym is) refl
 reading_halts BadType reading page halt fails is = let P : Halt → Type 0 = λ s. IsReading page reading (the_err PageCells s) in subst P (sym is) (refl, refl, ap is_legal fails)

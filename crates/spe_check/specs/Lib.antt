@@ -1,7 +1,3 @@
-pub mod Held
-pub mod Admits
-pub mod Given
-pub mod ReadOnly
 pub mod Tries
 pub mod Visitor
 pub mod Check
@@ -9,7 +5,6 @@ pub mod Marked
 pub mod MetPages
 pub mod Shown
 pub mod Chains
-pub mod Found
 pub mod Pages
 pub mod Trunks
 pub mod IndexTree

@@ -1,13 +1,13 @@
 //! Chains of overflow pages.
 
-ghost use Rattle.std.specs.Prelude.{◌≡◌, ◌+◌, ◌≤◌, ◌==◌, ℕ, Bool, not, [], ◌∷◌, OnOk, IfErr, length};
+ghost use Rattle.std.specs.Prelude.{◌≡◌, ◌+◌, ◌≤◌, ◌==◌, ℕ, Bool, not, [], ◌∷◌, OnOk, IfErr};
 ghost use Rattle.spe_model.specs.Walk.{Mark, Keeps};
 ghost use Rattle.spe_check.specs.Chains.{kept_of, TriesLink, TriesChain};
 ghost use Rattle.spe_check.specs.Shown.{Walked, RefusesHalt, AsksWithin};
 ghost use Rattle.spe_check.specs.Tries.{IsBroken, Tries};
 
 use crate::halt::Halt;
-use crate::met::Met;
+use crate::walk::Walk;
 use spe_model::u32_of;
 use spe_space::Pages;
 use std::alloc::AllocError;
@@ -50,58 +50,55 @@ pub fn try_none(holder: u32, page: u32) -> Result<(), Halt>
     Ok(())
 }
 
-// Tries a page that has to follow, keeps `here` of its bytes where they are wanted, and answers the
-// number of the next.
+// Tries a page that has to follow, puts `here` of its bytes behind the walk's payload where they are
+// wanted, and answers the number of the next.
 fn try_link<S: Pages>(
     space: &mut S,
-    met: &mut Met,
+    walk: &mut Walk,
     holder: u32,
     page: u32,
     here: usize,
     wanted: bool,
-    buf: &mut [u8],
-    out: &mut Vec<u8>,
 ) -> Result<u32, Halt>
-    requires size { length buf.old ≡ S.Pages.size space.old }
     requires room { here + 4 ≤ S.Pages.used space.old }
     requires within { S.Pages.used space.old ≤ S.Pages.size space.old }
-    ensures tried { TriesLink S.Pages space.new met.old met.new holder page here wanted out.old.items out.new.items result }
-    ensures walked { Walked S.Pages space.old space.new met.old met.new }
+    ensures tried { TriesLink S.Pages space.new walk.old.met walk.new.met holder page here wanted walk.old.payload.items walk.new.payload.items result }
+    ensures walked { Walked S.Pages space.old space.new walk.old.met walk.new.met }
     ensures refusal { RefusesHalt S.Pages space.old space.new result }
-    ensures asks { AsksWithin met.old result }
+    ensures asks { AsksWithin walk.old.met result }
 {
     match try_some(holder, page) {
         Ok(()) => (),
         Err(halt) => return Err(halt),
     }
-    match met.meet(holder, page) {
+    match walk.met.meet(holder, page) {
         Ok(()) => (),
         Err(halt) => return Err(halt),
     }
-    space.get(page, buf)?;
-    keep(wanted, &buf[4..4 + here], out)?;
-    Ok(u32_of(buf, 0))
+    let mut bytes = walk.buffers.take(space.page_size())?;
+    space.get(page, &mut bytes)?;
+    keep(wanted, &bytes[4..4 + here], &mut walk.payload)?;
+    let next = u32_of(&bytes, 0);
+    walk.buffers.give_back(bytes);
+    Ok(next)
 }
 
 /// Tries the chain of overflow pages from page `first` on, whose number stands on the page `holder`,
-/// and which holds `bytes` bytes. They are appended to `out` where they are wanted.
+/// and which holds `bytes` bytes. They are put behind the walk's payload where they are wanted.
 ///
-/// `buf` is one page long and is written over. Each page is got once.
+/// Each page is got once.
 pub fn try_chain<S: Pages>(
     space: &mut S,
-    met: &mut Met,
+    walk: &mut Walk,
     holder: u32,
     first: u32,
     bytes: u64,
     wanted: bool,
-    buf: &mut [u8],
-    out: &mut Vec<u8>,
 ) -> Result<(), Halt>
-    requires { length buf.old ≡ S.Pages.size space.old }
-    ensures tried { TriesChain S.Pages space.new met.old met.new holder first bytes wanted out.old.items out.new.items result }
-    ensures walked { Walked S.Pages space.old space.new met.old met.new }
+    ensures tried { TriesChain S.Pages space.new walk.old.met walk.new.met holder first bytes wanted walk.old.payload.items walk.new.payload.items result }
+    ensures walked { Walked S.Pages space.old space.new walk.old.met walk.new.met }
     ensures refusal { RefusesHalt S.Pages space.old space.new result }
-    ensures asks { AsksWithin met.old result }
+    ensures asks { AsksWithin walk.old.met result }
 {
     let usable = space.usable();
     let mut at = holder;
@@ -109,7 +106,7 @@ pub fn try_chain<S: Pages>(
     let mut left = bytes;
     'links: while left > 0 {
         let here = left.min(u64::from(usable - 4));
-        let next = match try_link(space, met, at, page, here as usize, wanted, buf, out) {
+        let next = match try_link(space, walk, at, page, here as usize, wanted) {
             Ok(next) => next,
             Err(halt) => return Err(halt),
         };

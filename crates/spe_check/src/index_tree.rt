@@ -1,17 +1,16 @@
 //! Trees of indexes.
 
-ghost use Rattle.std.specs.Prelude.{◌≡◌, IfOk, length};
+ghost use Rattle.std.specs.Prelude.{◌≡◌, IfOk};
 ghost use Rattle.spe_model.specs.Tree.{rest_of};
 ghost use Rattle.spe_check.specs.IndexTree.{level_of, TriesCell, TriesChains, TriesIndex, TriesIndexFrom};
 ghost use Rattle.spe_check.specs.Shown.{Walked, RefusesHalt, AsksWithin};
 
 use crate::chain::try_chain;
 use crate::halt::Halt;
-use crate::met::Met;
 use crate::page::{copy_met, is_leaf, try_place};
+use crate::walk::{Depth, Walk};
 use spe_model::{Cell, PageCells};
 use spe_space::Pages;
-use std::alloc::Global;
 
 // How many bytes of a cell's payload stand in its chain.
 pub fn rest_in(cell: &Cell) -> u64
@@ -22,50 +21,30 @@ pub fn rest_in(cell: &Cell) -> u64
 }
 
 // Tries the chain of a cell of a page. Its bytes are not kept.
-fn try_cell<S: Pages>(
-    space: &mut S,
-    met: &mut Met,
-    page: u32,
-    cell: &Cell,
-    buf: &mut [u8],
-    spare: &mut Vec<u8>,
-) -> Result<(), Halt>
-    requires { length buf.old ≡ S.Pages.size space.old }
-    ensures tried { TriesCell S.Pages space.new met.old met.new page cell.now result }
-    ensures walked { Walked S.Pages space.old space.new met.old met.new }
+fn try_cell<S: Pages>(space: &mut S, walk: &mut Walk, page: u32, cell: &Cell) -> Result<(), Halt>
+    ensures tried { TriesCell S.Pages space.new walk.old.met walk.new.met page cell.now result }
+    ensures walked { Walked S.Pages space.old space.new walk.old.met walk.new.met }
     ensures refusal { RefusesHalt S.Pages space.old space.new result }
-    ensures asks { AsksWithin met.old result }
+    ensures asks { AsksWithin walk.old.met result }
 {
-    try_chain(
-        space,
-        met,
-        page,
-        cell.chain,
-        rest_in(cell),
-        false,
-        buf,
-        spare,
-    )
+    try_chain(space, walk, page, cell.chain, rest_in(cell), false)
 }
 
 // Tries the chains of the cells of a page.
 fn try_chains<S: Pages>(
     space: &mut S,
-    met: &mut Met,
+    walk: &mut Walk,
     page: u32,
     cells: &[Cell],
-    buf: &mut [u8],
-    spare: &mut Vec<u8>,
 ) -> Result<(), Halt>
-    requires { length buf.old ≡ S.Pages.size space.old }
-    ensures tried { TriesChains S.Pages space.new met.old met.new page cells.now result }
-    ensures walked { Walked S.Pages space.old space.new met.old met.new }
+    ensures tried { TriesChains S.Pages space.new walk.old.met walk.new.met page cells.now result }
+    ensures walked { Walked S.Pages space.old space.new walk.old.met walk.new.met }
     ensures refusal { RefusesHalt S.Pages space.old space.new result }
-    ensures asks { AsksWithin met.old result }
+    ensures asks { AsksWithin walk.old.met result }
 {
     let mut left = cells;
     'cells: while let [cell, rest @ ..] = left {
-        match try_cell(space, met, page, cell, buf, spare) {
+        match try_cell(space, walk, page, cell) {
             Ok(()) => (),
             Err(halt) => return Err(halt),
         }
@@ -87,21 +66,18 @@ pub fn level_of(leaf: Option<u32>, levels: u32) -> u32
 // Tries the chains of the cells of a leaf, at which so many levels are left.
 fn walk_leaf<S: Pages>(
     space: &mut S,
-    met: &mut Met,
+    walk: &mut Walk,
     levels: u32,
     page: u32,
     cells: &[Cell],
-    buf: &mut [u8],
-    spare: &mut Vec<u8>,
 ) -> Result<u32, Halt>
-    requires { length buf.old ≡ S.Pages.size space.old }
-    ensures tried { TriesChains S.Pages space.new met.old met.new page cells.now result }
+    ensures tried { TriesChains S.Pages space.new walk.old.met walk.new.met page cells.now result }
     ensures level { IfOk result (λ level. level ≡ levels) }
-    ensures walked { Walked S.Pages space.old space.new met.old met.new }
+    ensures walked { Walked S.Pages space.old space.new walk.old.met walk.new.met }
     ensures refusal { RefusesHalt S.Pages space.old space.new result }
-    ensures asks { AsksWithin met.old result }
+    ensures asks { AsksWithin walk.old.met result }
 {
-    match try_chains(space, met, page, cells, buf, spare) {
+    match try_chains(space, walk, page, cells) {
         Ok(()) => Ok(levels),
         Err(halt) => Err(halt),
     }
@@ -110,94 +86,66 @@ fn walk_leaf<S: Pages>(
 /// Tries the tree of an index from the page `page` on, whose number stands on the page `holder`, and
 /// answers how many levels were left at its leaves.
 ///
-/// So many levels are left, the page among them; `leaf` says how many were left at the first leaf of
-/// the whole tree, where one was met. `buf` is one page long. Each page is got once.
+/// `depth` says how deep the page stands. Each page is got once.
 #[cycle(index)]
 pub fn walk_index<S: Pages>(
-    alloc: Global,
     space: &mut S,
-    met: &mut Met,
-    leaf: Option<u32>,
-    levels: u32,
+    walk: &mut Walk,
+    depth: Depth,
     holder: u32,
     page: u32,
-    buf: &mut [u8],
-    spare: &mut Vec<u8>,
 ) -> Result<u32, Halt>
-    requires { length buf.old ≡ S.Pages.size space.old }
-    ensures tried { TriesIndex S.Pages space.new met.old met.new leaf levels holder page result }
-    ensures walked { Walked S.Pages space.old space.new met.old met.new }
+    ensures tried { TriesIndex S.Pages space.new walk.old.met walk.new.met depth.leaf depth.levels holder page result }
+    ensures walked { Walked S.Pages space.old space.new walk.old.met walk.new.met }
     ensures refusal { RefusesHalt S.Pages space.old space.new result }
-    ensures asks { AsksWithin met.old result }
+    ensures asks { AsksWithin walk.old.met result }
 {
-    let node = match copy_met(alloc, space, met, holder, page, buf) {
+    let mut bytes = walk.buffers.take(space.page_size())?;
+    let node = match copy_met(walk.alloc, space, &mut walk.met, holder, page, &mut bytes) {
         Ok(node) => node,
         Err(halt) => return Err(halt),
     };
-    walk_index_from(alloc, space, met, leaf, levels, page, &node, buf, spare)
+    walk.buffers.give_back(bytes);
+    walk_index_from(space, walk, depth, page, &node)
 }
 
 /// Goes on with the tree of an index from the page `page` on, which was met and read already and holds
 /// `node`. The page is not got again; the rest is as for `walk_index`.
 #[cycle(index)]
 pub fn walk_index_from<S: Pages>(
-    alloc: Global,
     space: &mut S,
-    met: &mut Met,
-    leaf: Option<u32>,
-    levels: u32,
+    walk: &mut Walk,
+    depth: Depth,
     page: u32,
     node: &PageCells,
-    buf: &mut [u8],
-    spare: &mut Vec<u8>,
 ) -> Result<u32, Halt>
-    requires { length buf.old ≡ S.Pages.size space.old }
-    ensures tried { TriesIndexFrom S.Pages space.new met.old met.new leaf levels page node.now result }
-    ensures walked { Walked S.Pages space.old space.new met.old met.new }
+    ensures tried { TriesIndexFrom S.Pages space.new walk.old.met walk.new.met depth.leaf depth.levels page node.now result }
+    ensures walked { Walked S.Pages space.old space.new walk.old.met walk.new.met }
     ensures refusal { RefusesHalt S.Pages space.old space.new result }
-    ensures asks { AsksWithin met.old result }
+    ensures asks { AsksWithin walk.old.met result }
 {
-    match try_place(false, leaf, levels, page, node.kind) {
+    match try_place(false, depth.leaf, depth.levels, page, node.kind) {
         Ok(()) => (),
         Err(halt) => return Err(halt),
     }
     if is_leaf(node.kind) {
-        let level = level_of(leaf, levels);
-        return walk_leaf(space, met, level, page, node.cells.as_slice(), buf, spare);
+        let level = level_of(depth.leaf, depth.levels);
+        return walk_leaf(space, walk, level, page, node.cells.as_slice());
     }
     let right = node.right;
-    let mut stand = leaf;
+    let levels = depth.levels - 1;
+    let mut leaf = depth.leaf;
     let mut left = node.cells.as_slice();
     'children: while let [cell, rest @ ..] = left {
-        match walk_index(
-            alloc,
-            space,
-            met,
-            stand,
-            levels - 1,
-            page,
-            cell.left,
-            buf,
-            spare,
-        ) {
-            Ok(level) => stand = Some(level),
+        match walk_index(space, walk, Depth { leaf, levels }, page, cell.left) {
+            Ok(level) => leaf = Some(level),
             Err(halt) => return Err(halt),
         }
-        match try_cell(space, met, page, cell, buf, spare) {
+        match try_cell(space, walk, page, cell) {
             Ok(()) => (),
             Err(halt) => return Err(halt),
         }
         left = rest;
     }
-    walk_index(
-        alloc,
-        space,
-        met,
-        stand,
-        levels - 1,
-        page,
-        right,
-        buf,
-        spare,
-    )
+    walk_index(space, walk, Depth { leaf, levels }, page, right)
 }

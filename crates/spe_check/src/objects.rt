@@ -1,6 +1,6 @@
 //! The trees of the objects that the schema names.
 
-ghost use Rattle.std.specs.Prelude.{◌≡◌, ◌≤◌, IfOk, SomeIff, length};
+ghost use Rattle.std.specs.Prelude.{◌≡◌, ◌≤◌, IfOk, SomeIff, None, length};
 ghost use Rattle.spe_model.specs.Schema.{root_of};
 ghost use Rattle.spe_model.specs.Verdict.{no_marks, record_marks, tree_levels};
 ghost use Rattle.spe_model.specs.Walk.{walk_rows};
@@ -8,15 +8,17 @@ ghost use Rattle.spe_catalog.specs.Table.{Attaches};
 ghost use Rattle.spe_check.specs.Objects.{index_tree, table_tree, OpensTable, TriesFrom, TriesTree, TriesObject, TriesObjects};
 ghost use Rattle.spe_check.specs.RecordRows.{saturated};
 ghost use Rattle.spe_check.specs.SchemaRows.{rows_in};
+ghost use Rattle.spe_check.specs.TableTree.{TriesTableFrom};
 ghost use Rattle.spe_check.specs.Shown.{Walked, RefusesHalt, AsksWithin};
 
 use crate::halt::Halt;
 use crate::index_tree::walk_index_from;
-use crate::met::Met;
 use crate::page::{is_table, read_met};
 use crate::record_rows::{NoRows, RecordRows};
 use crate::schema_rows::Placed;
 use crate::table_tree::walk_table_from;
+use crate::visitor::RowVisitor;
+use crate::walk::{Bounds, Depth, Walk};
 use spe_catalog::{Attached, SchemaRow, table_of};
 use spe_format::LegalPage;
 use spe_model::PageCells;
@@ -76,58 +78,59 @@ fn root_within(pages: u32, row: &SchemaRow) -> Option<u32>
 
 // Tries the tree of an index from its root on.
 fn try_index<S: Pages>(
-    alloc: Global,
     space: &mut S,
-    met: &mut Met,
+    walk: &mut Walk,
     root: u32,
     node: &PageCells,
-    buf: &mut [u8],
 ) -> Result<u64, Halt>
-    requires { length buf.old ≡ S.Pages.size space.old }
-    ensures tried { TriesFrom S.Pages space.new met.old met.new index_tree (λ _ _. 0) root node.now result }
-    ensures walked { Walked S.Pages space.old space.new met.old met.new }
+    ensures tried { TriesFrom S.Pages space.new walk.old.met walk.new.met index_tree (λ _ _. 0) root node.now result }
+    ensures walked { Walked S.Pages space.old space.new walk.old.met walk.new.met }
     ensures refusal { RefusesHalt S.Pages space.old space.new result }
-    ensures asks { AsksWithin met.old result }
+    ensures asks { AsksWithin walk.old.met result }
 {
     let levels = tree_levels();
-    let mut spare = Vec::new(alloc);
-    match walk_index_from(alloc, space, met, None, levels, root, node, buf, &mut spare) {
+    let depth = Depth { leaf: None, levels };
+    match walk_index_from(space, walk, depth, root, node) {
         Ok(_level) => Ok(0),
         Err(halt) => Err(halt),
     }
 }
 
-// Tries the tree of a closed table, or of another object, from its root on.
-fn try_closed<S: Pages>(
-    alloc: Global,
+// Tries the tree of a table from its root on, which was met and read already and holds `node`.
+fn try_table<S: Pages, V: RowVisitor>(
     space: &mut S,
-    met: &mut Met,
+    walk: &mut Walk,
+    visitor: &mut V,
     root: u32,
     node: &LegalPage<'_>,
-    buf: &mut [u8],
-) -> Result<u64, Halt>
-    requires { length buf.old ≡ S.Pages.size space.old }
-    ensures tried { TriesFrom S.Pages space.new met.old met.new (table_tree no_marks) (λ _ _. 0) root node.now result }
-    ensures walked { Walked S.Pages space.old space.new met.old met.new }
+) -> Result<u32, Halt>
+    ensures tried { TriesTableFrom S.Pages V.RowVisitor space.new walk.old.met walk.new.met visitor.old visitor.new None tree_levels 0 18446744073709551616 root node.now result }
+    ensures walked { Walked S.Pages space.old space.new walk.old.met walk.new.met }
     ensures refusal { RefusesHalt S.Pages space.old space.new result }
-    ensures asks { AsksWithin met.old result }
+    ensures asks { AsksWithin walk.old.met result }
 {
     let levels = tree_levels();
-    let mut payload = Vec::new(alloc);
-    match walk_table_from(
-        alloc,
-        space,
-        met,
-        &mut NoRows,
-        None,
-        levels,
-        None,
-        None,
-        root,
-        node,
-        buf,
-        &mut payload,
-    ) {
+    let depth = Depth { leaf: None, levels };
+    let unbounded = Bounds {
+        low: None,
+        high: None,
+    };
+    walk_table_from(space, walk, visitor, depth, unbounded, root, node)
+}
+
+// Tries the tree of a closed table, or of another object, from its root on.
+fn try_closed<S: Pages>(
+    space: &mut S,
+    walk: &mut Walk,
+    root: u32,
+    node: &LegalPage<'_>,
+) -> Result<u64, Halt>
+    ensures tried { TriesFrom S.Pages space.new walk.old.met walk.new.met (table_tree no_marks) (λ _ _. 0) root node.now result }
+    ensures walked { Walked S.Pages space.old space.new walk.old.met walk.new.met }
+    ensures refusal { RefusesHalt S.Pages space.old space.new result }
+    ensures asks { AsksWithin walk.old.met result }
+{
+    match try_table(space, walk, &mut NoRows, root, node) {
         Ok(_level) => Ok(0),
         Err(halt) => Err(halt),
     }
@@ -135,37 +138,19 @@ fn try_closed<S: Pages>(
 
 // Tries the tree of an open table with so many columns from its root on, and counts its rows.
 fn try_open<S: Pages>(
-    alloc: Global,
     space: &mut S,
-    met: &mut Met,
+    walk: &mut Walk,
     columns: usize,
     root: u32,
     node: &LegalPage<'_>,
-    buf: &mut [u8],
 ) -> Result<u64, Halt>
-    requires { length buf.old ≡ S.Pages.size space.old }
-    ensures tried { TriesFrom S.Pages space.new met.old met.new (table_tree (record_marks columns)) (λ usable pages. saturated (length (walk_rows usable pages tree_levels root))) root node.now result }
-    ensures walked { Walked S.Pages space.old space.new met.old met.new }
+    ensures tried { TriesFrom S.Pages space.new walk.old.met walk.new.met (table_tree (record_marks columns)) (λ usable pages. saturated (length (walk_rows usable pages tree_levels root))) root node.now result }
+    ensures walked { Walked S.Pages space.old space.new walk.old.met walk.new.met }
     ensures refusal { RefusesHalt S.Pages space.old space.new result }
-    ensures asks { AsksWithin met.old result }
+    ensures asks { AsksWithin walk.old.met result }
 {
-    let levels = tree_levels();
     let mut rows = RecordRows::new(columns);
-    let mut payload = Vec::new(alloc);
-    match walk_table_from(
-        alloc,
-        space,
-        met,
-        &mut rows,
-        None,
-        levels,
-        None,
-        None,
-        root,
-        node,
-        buf,
-        &mut payload,
-    ) {
+    match try_table(space, walk, &mut rows, root, node) {
         Ok(_level) => Ok(rows.count()),
         Err(halt) => Err(halt),
     }
@@ -174,50 +159,44 @@ fn try_open<S: Pages>(
 // Tries the tree of a row's object from its root on, which was read and holds `node`, and answers how
 // many rows it has, where it is an open table.
 fn try_tree<S: Pages>(
-    alloc: Global,
     space: &mut S,
-    met: &mut Met,
+    walk: &mut Walk,
     attached: &Attached,
     row: &SchemaRow,
     root: u32,
     node: &LegalPage<'_>,
-    buf: &mut [u8],
 ) -> Result<u64, Halt>
-    requires { length buf.old ≡ S.Pages.size space.old }
-    ensures tried { TriesTree S.Pages space.new met.old met.new attached.now root row.now node.now result }
-    ensures walked { Walked S.Pages space.old space.new met.old met.new }
+    ensures tried { TriesTree S.Pages space.new walk.old.met walk.new.met attached.now root row.now node.now result }
+    ensures walked { Walked S.Pages space.old space.new walk.old.met walk.new.met }
     ensures refusal { RefusesHalt S.Pages space.old space.new result }
-    ensures asks { AsksWithin met.old result }
+    ensures asks { AsksWithin walk.old.met result }
 {
     if !is_table(node.kind()) {
-        let cells = node.copied(alloc)?;
-        return try_index(alloc, space, met, root, &cells, buf);
+        let cells = node.copied(walk.alloc)?;
+        return try_index(space, walk, root, &cells);
     }
-    match open_columns(alloc, attached, row)? {
-        Some(columns) => try_open(alloc, space, met, columns, root, node, buf),
-        None => try_closed(alloc, space, met, root, node, buf),
+    match open_columns(walk.alloc, attached, row)? {
+        Some(columns) => try_open(space, walk, columns, root, node),
+        None => try_closed(space, walk, root, node),
     }
 }
 
 // Tries the tree of a row's object, where the row names a root, and answers how many rows it has,
 // where it is an open table. Its root is met under the row's leaf.
 fn try_object<S: Pages>(
-    alloc: Global,
     space: &mut S,
-    met: &mut Met,
+    walk: &mut Walk,
     attached: &Attached,
     placed: &Placed,
-    buf: &mut [u8],
 ) -> Result<u64, Halt>
-    requires { length buf.old ≡ S.Pages.size space.old }
-    ensures tried { TriesObject S.Pages space.new met.old met.new attached.now placed.now result }
-    ensures walked { Walked S.Pages space.old space.new met.old met.new }
+    ensures tried { TriesObject S.Pages space.new walk.old.met walk.new.met attached.now placed.now result }
+    ensures walked { Walked S.Pages space.old space.new walk.old.met walk.new.met }
     ensures refusal { RefusesHalt S.Pages space.old space.new result }
-    ensures asks { AsksWithin met.old result }
+    ensures asks { AsksWithin walk.old.met result }
 {
     let row = placed.row();
     let leaf = placed.leaf();
-    let Some(root) = root_within(met.pages, row) else {
+    let Some(root) = root_within(walk.met.pages, row) else {
         return Err(Halt::Broken {
             page: leaf,
             rule: 1,
@@ -226,38 +205,39 @@ fn try_object<S: Pages>(
     if root == 0 {
         return Ok(0);
     }
-    let mut own = vec![in alloc; 0u8; space.page_size() as usize]?;
-    let node = match read_met(alloc, space, met, leaf, root, own.as_mut_slice()) {
+    let mut own = walk.buffers.take(space.page_size())?;
+    let node = match read_met(
+        walk.alloc,
+        space,
+        &mut walk.met,
+        leaf,
+        root,
+        own.as_mut_slice(),
+    ) {
         Ok(node) => node,
         Err(halt) => return Err(halt),
     };
-    try_tree(alloc, space, met, attached, row, root, &node, buf)
+    let rows = try_tree(space, walk, attached, row, root, &node);
+    walk.buffers.give_back(own);
+    rows
 }
 
 /// Tries the trees of the objects that these rows of the schema name, in their order, and answers how
 /// many rows the open tables have, or the greatest number of 64 bits where they have more.
 ///
 /// A row without a root, or with one that is negative, has no tree. The tree of an open table is one of
-/// a table; of any other object the root's own kind says what it is. `buf` is one page long. Each page
-/// is got once.
-pub fn try_objects<S: Pages>(
-    alloc: Global,
-    space: &mut S,
-    met: &mut Met,
-    placed: &[Placed],
-    buf: &mut [u8],
-) -> Result<u64, Halt>
-    requires { length buf.old ≡ S.Pages.size space.old }
-    ensures tried { TriesObjects S.Pages space.new met.old met.new placed.now result }
-    ensures walked { Walked S.Pages space.old space.new met.old met.new }
+/// a table; of any other object the root's own kind says what it is. Each page is got once.
+pub fn try_objects<S: Pages>(space: &mut S, walk: &mut Walk, placed: &[Placed]) -> Result<u64, Halt>
+    ensures tried { TriesObjects S.Pages space.new walk.old.met walk.new.met placed.now result }
+    ensures walked { Walked S.Pages space.old space.new walk.old.met walk.new.met }
     ensures refusal { RefusesHalt S.Pages space.old space.new result }
-    ensures asks { AsksWithin met.old result }
+    ensures asks { AsksWithin walk.old.met result }
 {
-    let attached = attached_to(alloc, placed)?;
+    let attached = attached_to(walk.alloc, placed)?;
     let mut rows: u64 = 0;
     let mut left = placed;
     'objects: while let [first, rest @ ..] = left {
-        match try_object(alloc, space, met, &attached, first, buf) {
+        match try_object(space, walk, &attached, first) {
             Ok(more) => rows = rows.saturating_add(more),
             Err(halt) => return Err(halt),
         }

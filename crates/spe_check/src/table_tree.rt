@@ -1,6 +1,6 @@
 //! Trees of tables.
 
-ghost use Rattle.std.specs.Prelude.{◌≡◌, ◌≤◌, ◌<◌, ◌+◌, ℕ, Bool, true, nat_le, nat_lt, [], ◌∷◌, IfOk, IfErr, OnOk, length};
+ghost use Rattle.std.specs.Prelude.{◌≡◌, ◌≤◌, ◌<◌, ◌+◌, ℕ, Bool, true, nat_le, nat_lt, [], ◌∷◌, IfOk, IfErr, OnOk};
 ghost use Rattle.spe_format.specs.View.{cell_seen};
 ghost use Rattle.spe_model.specs.Tree.{rank, rest_of};
 ghost use Rattle.spe_model.specs.Kind.{is_leaf};
@@ -15,13 +15,13 @@ ghost use Rattle.spe_check.specs.Visitor.{IsOwn};
 use crate::chain::{try_chain, try_none};
 use crate::halt::Halt;
 use crate::index_tree::level_of;
-use crate::met::Met;
 use crate::page::{is_leaf, read_met, try_place};
 use crate::rule::try_rule;
 use crate::visitor::RowVisitor;
+use crate::walk::{Bounds, Depth, Walk};
 use spe_format::{LegalPage, Parts};
 use spe_space::Pages;
-use std::alloc::{AllocError, Global};
+use std::alloc::AllocError;
 
 // Whether a key is above the one to its left, where there is one.
 fn is_above(low: Option<i64>, key: i64) -> bool
@@ -43,20 +43,20 @@ fn is_up_to(high: Option<i64>, key: i64) -> bool
     }
 }
 
-fn is_within(low: Option<i64>, high: Option<i64>, parts: &Parts<'_>) -> bool
-    ensures { result ≡ is_within_bounds (low_of low) (high_of high) (cell_seen parts.now) }
+fn is_within(bounds: Bounds, parts: &Parts<'_>) -> bool
+    ensures { result ≡ is_within_bounds (low_of bounds.low) (high_of bounds.high) (cell_seen parts.now) }
 {
-    is_above(low, parts.key) && is_up_to(high, parts.key)
+    is_above(bounds.low, parts.key) && is_up_to(bounds.high, parts.key)
 }
 
-// Tries whether the key of a cell lies between two keys: above one, and at most the other.
-fn try_bound(low: Option<i64>, high: Option<i64>, page: u32, parts: &Parts<'_>) -> Result<(), Halt>
-    ensures tried { (count : ℕ) (met : ℕ → Bool) → Tries count met met (Keeps page 6 (is_within_bounds (low_of low) (high_of high) (cell_seen parts.now)) ∷ []) result }
-    ensures above { OnOk result (low_of low ≤ rank parts.now.key) }
-    ensures below { OnOk result (rank parts.now.key < high_of high) }
+// Tries whether the key of a cell lies within these bounds.
+fn try_bound(bounds: Bounds, page: u32, parts: &Parts<'_>) -> Result<(), Halt>
+    ensures tried { (count : ℕ) (met : ℕ → Bool) → Tries count met met (Keeps page 6 (is_within_bounds (low_of bounds.low) (high_of bounds.high) (cell_seen parts.now)) ∷ []) result }
+    ensures above { OnOk result (low_of bounds.low ≤ rank parts.now.key) }
+    ensures below { OnOk result (rank parts.now.key < high_of bounds.high) }
     ensures broken { IfErr result IsBroken }
 {
-    try_rule(is_within(low, high, parts), page, 6)
+    try_rule(is_within(bounds, parts), page, 6)
 }
 
 // Begins a payload anew with the bytes in its page, where they are wanted.
@@ -80,30 +80,18 @@ fn rest_in(parts: &Parts<'_>) -> u64
 // Tries the chain of a cell, and takes the cell's payload where it is wanted.
 fn take_payload<S: Pages>(
     space: &mut S,
-    met: &mut Met,
+    walk: &mut Walk,
     page: u32,
     parts: &Parts<'_>,
     wanted: bool,
-    buf: &mut [u8],
-    payload: &mut Vec<u8>,
 ) -> Result<(), Halt>
-    requires { length buf.old ≡ S.Pages.size space.old }
-    ensures tried { TakesPayload S.Pages space.new met.old met.new page (cell_seen parts.now) wanted payload.new.items result }
-    ensures walked { Walked S.Pages space.old space.new met.old met.new }
+    ensures tried { TakesPayload S.Pages space.new walk.old.met walk.new.met page (cell_seen parts.now) wanted walk.new.payload.items result }
+    ensures walked { Walked S.Pages space.old space.new walk.old.met walk.new.met }
     ensures refusal { RefusesHalt S.Pages space.old space.new result }
-    ensures asks { AsksWithin met.old result }
+    ensures asks { AsksWithin walk.old.met result }
 {
-    begin(wanted, parts.local, payload)?;
-    try_chain(
-        space,
-        met,
-        page,
-        parts.chain,
-        rest_in(parts),
-        wanted,
-        buf,
-        payload,
-    )
+    begin(wanted, parts.local, &mut walk.payload)?;
+    try_chain(space, walk, page, parts.chain, rest_in(parts), wanted)
 }
 
 // Has a row visited where the visitor wants it.
@@ -149,26 +137,22 @@ fn try_local<V: RowVisitor>(visitor: &mut V, page: u32, parts: &Parts<'_>) -> Re
 // Tries a row of a leaf: its bound, its chain, and what the visitor tries of it.
 fn try_row<S: Pages, V: RowVisitor>(
     space: &mut S,
-    met: &mut Met,
+    walk: &mut Walk,
     visitor: &mut V,
-    low: Option<i64>,
-    high: Option<i64>,
+    bounds: Bounds,
     page: u32,
     parts: &Parts<'_>,
-    buf: &mut [u8],
-    payload: &mut Vec<u8>,
 ) -> Result<(), Halt>
-    requires { length buf.old ≡ S.Pages.size space.old }
-    ensures tried { TriesRow S.Pages V.RowVisitor space.new met.old met.new visitor.old visitor.new page (low_of low) (high_of high) (cell_seen parts.now) result }
-    ensures above { OnOk result (low_of low ≤ rank parts.now.key) }
-    ensures below { OnOk result (rank parts.now.key < high_of high) }
-    ensures rises { Rises V.RowVisitor visitor.old visitor.new (low_of low) (rank parts.now.key + 1) result }
+    ensures tried { TriesRow S.Pages V.RowVisitor space.new walk.old.met walk.new.met visitor.old visitor.new page (low_of bounds.low) (high_of bounds.high) (cell_seen parts.now) result }
+    ensures above { OnOk result (low_of bounds.low ≤ rank parts.now.key) }
+    ensures below { OnOk result (rank parts.now.key < high_of bounds.high) }
+    ensures rises { Rises V.RowVisitor visitor.old visitor.new (low_of bounds.low) (rank parts.now.key + 1) result }
     ensures wanted { V.RowVisitor.wanted visitor.new ≡ V.RowVisitor.wanted visitor.old }
-    ensures walked { Walked S.Pages space.old space.new met.old met.new }
+    ensures walked { Walked S.Pages space.old space.new walk.old.met walk.new.met }
     ensures refusal { RefusesHalt S.Pages space.old space.new result }
-    ensures asks { AsksWithin met.old result }
+    ensures asks { AsksWithin walk.old.met result }
 {
-    match try_bound(low, high, page, parts) {
+    match try_bound(bounds, page, parts) {
         Ok(()) => (),
         Err(halt) => return Err(halt),
     }
@@ -176,11 +160,11 @@ fn try_row<S: Pages, V: RowVisitor>(
         return try_local(visitor, page, parts);
     }
     let wanted = visitor.wants();
-    match take_payload(space, met, page, parts, wanted, buf, payload) {
+    match take_payload(space, walk, page, parts, wanted) {
         Ok(()) => (),
         Err(halt) => return Err(halt),
     }
-    visit_row(visitor, page, parts, payload.as_slice())
+    visit_row(visitor, page, parts, walk.payload.as_slice())
 }
 
 fn key_of(parts: &Parts<'_>) -> Option<i64>
@@ -193,33 +177,31 @@ fn key_of(parts: &Parts<'_>) -> Option<i64>
 // Tries the rows of a leaf, at which so many levels are left.
 fn try_rows<S: Pages, V: RowVisitor>(
     space: &mut S,
-    met: &mut Met,
+    walk: &mut Walk,
     visitor: &mut V,
     levels: u32,
-    low: Option<i64>,
-    high: Option<i64>,
+    bounds: Bounds,
     page: u32,
     node: &LegalPage<'_>,
-    buf: &mut [u8],
-    payload: &mut Vec<u8>,
 ) -> Result<u32, Halt>
-    requires { length buf.old ≡ S.Pages.size space.old }
-    ensures tried { TriesRows S.Pages V.RowVisitor space.new met.old met.new visitor.old visitor.new page (low_of low) (high_of high) node.now.cells result }
+    ensures tried { TriesRows S.Pages V.RowVisitor space.new walk.old.met walk.new.met visitor.old visitor.new page (low_of bounds.low) (high_of bounds.high) node.now.cells result }
     ensures level { IfOk result (λ level. level ≡ levels) }
-    ensures rises { Rises V.RowVisitor visitor.old visitor.new (low_of low) (high_of high) result }
+    ensures rises { Rises V.RowVisitor visitor.old visitor.new (low_of bounds.low) (high_of bounds.high) result }
     ensures wanted { V.RowVisitor.wanted visitor.new ≡ V.RowVisitor.wanted visitor.old }
-    ensures walked { Walked S.Pages space.old space.new met.old met.new }
+    ensures walked { Walked S.Pages space.old space.new walk.old.met walk.new.met }
     ensures refusal { RefusesHalt S.Pages space.old space.new result }
-    ensures asks { AsksWithin met.old result }
+    ensures asks { AsksWithin walk.old.met result }
 {
-    let mut above = low;
+    let high = bounds.high;
+    let mut low = bounds.low;
     let mut index = 0;
     'rows: while let Some(parts) = node.cell(index) {
-        match try_row(space, met, visitor, above, high, page, &parts, buf, payload) {
+        let within = Bounds { low, high };
+        match try_row(space, walk, visitor, within, page, &parts) {
             Ok(()) => (),
             Err(halt) => return Err(halt),
         }
-        above = key_of(&parts);
+        low = key_of(&parts);
         index += 1;
     }
     Ok(levels)
@@ -243,101 +225,93 @@ fn has_rows(node: &LegalPage<'_>) -> bool
 /// Tries the tree of a table with its rows from the page `page` on, whose number stands on the page
 /// `holder`, and answers how many levels were left at its leaves.
 ///
-/// So many levels are left, the page among them; `leaf` says how many were left at the first leaf of
-/// the whole tree, where one was met. All keys are to be above `low` and at most `high`, the parents'
-/// nearest keys on either side. `buf` is one page long and takes the pages of chains, and `payload`
-/// the payload of one row with a chain after the other. Each page is got once, into a buffer of its
-/// own that is freed behind it, and the visitor gets the rows in their order.
+/// `depth` says how deep the page stands, and `bounds` the parents' nearest keys on either side. Each
+/// page is got once, into a buffer that is used again behind it, and the visitor gets the rows in their
+/// order.
 #[cycle(table)]
 pub fn walk_table<S: Pages, V: RowVisitor>(
-    alloc: Global,
     space: &mut S,
-    met: &mut Met,
+    walk: &mut Walk,
     visitor: &mut V,
-    leaf: Option<u32>,
-    levels: u32,
-    low: Option<i64>,
-    high: Option<i64>,
+    depth: Depth,
+    bounds: Bounds,
     holder: u32,
     page: u32,
-    buf: &mut [u8],
-    payload: &mut Vec<u8>,
 ) -> Result<u32, Halt>
-    requires { length buf.old ≡ S.Pages.size space.old }
-    ensures tried { TriesTable S.Pages V.RowVisitor space.new met.old met.new visitor.old visitor.new leaf levels (low_of low) (high_of high) holder page result }
-    ensures rises { Rises V.RowVisitor visitor.old visitor.new (low_of low) (high_of high) result }
+    ensures tried { TriesTable S.Pages V.RowVisitor space.new walk.old.met walk.new.met visitor.old visitor.new depth.leaf depth.levels (low_of bounds.low) (high_of bounds.high) holder page result }
+    ensures rises { Rises V.RowVisitor visitor.old visitor.new (low_of bounds.low) (high_of bounds.high) result }
     ensures wanted { V.RowVisitor.wanted visitor.new ≡ V.RowVisitor.wanted visitor.old }
-    ensures walked { Walked S.Pages space.old space.new met.old met.new }
+    ensures walked { Walked S.Pages space.old space.new walk.old.met walk.new.met }
     ensures refusal { RefusesHalt S.Pages space.old space.new result }
-    ensures asks { AsksWithin met.old result }
+    ensures asks { AsksWithin walk.old.met result }
 {
-    let mut own = vec![in alloc; 0u8; space.page_size() as usize]?;
-    let node = match read_met(alloc, space, met, holder, page, own.as_mut_slice()) {
+    let mut own = walk.buffers.take(space.page_size())?;
+    let node = match read_met(
+        walk.alloc,
+        space,
+        &mut walk.met,
+        holder,
+        page,
+        own.as_mut_slice(),
+    ) {
         Ok(node) => node,
         Err(halt) => return Err(halt),
     };
-    walk_table_from(
-        alloc, space, met, visitor, leaf, levels, low, high, page, &node, buf, payload,
-    )
+    let found = walk_table_from(space, walk, visitor, depth, bounds, page, &node);
+    walk.buffers.give_back(own);
+    found
 }
 
 /// Goes on with the tree of a table from the page `page` on, which was met and read already and holds
 /// `node`. The page is not got again; the rest is as for `walk_table`.
 #[cycle(table)]
 pub fn walk_table_from<S: Pages, V: RowVisitor>(
-    alloc: Global,
     space: &mut S,
-    met: &mut Met,
+    walk: &mut Walk,
     visitor: &mut V,
-    leaf: Option<u32>,
-    levels: u32,
-    low: Option<i64>,
-    high: Option<i64>,
+    depth: Depth,
+    bounds: Bounds,
     page: u32,
     node: &LegalPage<'_>,
-    buf: &mut [u8],
-    payload: &mut Vec<u8>,
 ) -> Result<u32, Halt>
-    requires { length buf.old ≡ S.Pages.size space.old }
-    ensures tried { TriesTableFrom S.Pages V.RowVisitor space.new met.old met.new visitor.old visitor.new leaf levels (low_of low) (high_of high) page node.now result }
-    ensures rises { Rises V.RowVisitor visitor.old visitor.new (low_of low) (high_of high) result }
+    ensures tried { TriesTableFrom S.Pages V.RowVisitor space.new walk.old.met walk.new.met visitor.old visitor.new depth.leaf depth.levels (low_of bounds.low) (high_of bounds.high) page node.now result }
+    ensures rises { Rises V.RowVisitor visitor.old visitor.new (low_of bounds.low) (high_of bounds.high) result }
     ensures wanted { V.RowVisitor.wanted visitor.new ≡ V.RowVisitor.wanted visitor.old }
-    ensures walked { Walked S.Pages space.old space.new met.old met.new }
+    ensures walked { Walked S.Pages space.old space.new walk.old.met walk.new.met }
     ensures refusal { RefusesHalt S.Pages space.old space.new result }
-    ensures asks { AsksWithin met.old result }
+    ensures asks { AsksWithin walk.old.met result }
 {
-    match try_node(leaf, levels, page, node) {
+    match try_node(depth.leaf, depth.levels, page, node) {
         Ok(()) => (),
         Err(halt) => return Err(halt),
     }
     if has_rows(node) {
-        let level = level_of(leaf, levels);
-        return try_rows(
-            space, met, visitor, level, low, high, page, node, buf, payload,
-        );
+        let level = level_of(depth.leaf, depth.levels);
+        return try_rows(space, walk, visitor, level, bounds, page, node);
     }
-    let fewer = levels - 1;
-    let mut stand = leaf;
-    let mut above = low;
+    let levels = depth.levels - 1;
+    let high = bounds.high;
+    let mut leaf = depth.leaf;
+    let mut low = bounds.low;
     let mut index = 0;
     'children: while let Some(parts) = node.cell(index) {
-        let key = key_of(&parts);
         let child = parts.left;
-        match walk_table(
-            alloc, space, met, visitor, stand, fewer, above, key, page, child, buf, payload,
-        ) {
-            Ok(level) => stand = Some(level),
+        let key = key_of(&parts);
+        let under = Depth { leaf, levels };
+        let left = Bounds { low, high: key };
+        match walk_table(space, walk, visitor, under, left, page, child) {
+            Ok(level) => leaf = Some(level),
             Err(halt) => return Err(halt),
         }
-        match try_bound(above, high, page, &parts) {
+        match try_bound(Bounds { low, high }, page, &parts) {
             Ok(()) => (),
             Err(halt) => return Err(halt),
         }
-        above = key;
+        low = key;
         index += 1;
     }
     let right = node.right();
-    walk_table(
-        alloc, space, met, visitor, stand, fewer, above, high, page, right, buf, payload,
-    )
+    let under = Depth { leaf, levels };
+    let last = Bounds { low, high };
+    walk_table(space, walk, visitor, under, last, page, right)
 }

@@ -1,6 +1,6 @@
 //! The verdict over the pages of a database.
 
-ghost use Rattle.std.specs.Prelude.{IfErr, ◌≡◌, ◌≤◌, ◌+◌, ◌*◌, ◌^◌, None, length};
+ghost use Rattle.std.specs.Prelude.{IfErr, ◌≡◌, ◌≤◌, ◌+◌, ◌*◌, ◌^◌, None};
 ghost use Rattle.spe_model.specs.Served.{usable_in};
 ghost use Rattle.spe_space.specs.Calls.{Reads};
 ghost use Rattle.spe_space.specs.Outcome.{IsInside, OnPageOut, refusal_after};
@@ -10,10 +10,10 @@ ghost use Rattle.spe_check.specs.Verdicts.{narrowed, tables_among, with_row, Tri
 
 use crate::free_lists::try_free;
 use crate::halt::Halt;
-use crate::met::Met;
 use crate::objects::{tree_levels, try_objects};
 use crate::schema_rows::{Placed, SchemaRows};
 use crate::table_tree::walk_table;
+use crate::walk::{Bounds, Depth, Walk};
 use spe_model::{Header, Verdict};
 use spe_space::{Pages, SpaceFault};
 use spe_verdict::{bounds_law, counts_law};
@@ -51,63 +51,42 @@ fn count_tables(placed: &[Placed]) -> u32
 }
 
 // Tries the tree of the schema, and answers its rows with their leaves.
-fn try_schema<S: Pages>(
-    alloc: Global,
-    space: &mut S,
-    met: &mut Met,
-    buf: &mut [u8],
-) -> Result<Vec<Placed>, Halt>
-    requires { length buf.old ≡ S.Pages.size space.old }
-    ensures tried { TriesSchema S.Pages space.new met.old met.new result }
-    ensures walked { Walked S.Pages space.old space.new met.old met.new }
+fn try_schema<S: Pages>(space: &mut S, walk: &mut Walk) -> Result<Vec<Placed>, Halt>
+    ensures tried { TriesSchema S.Pages space.new walk.old.met walk.new.met result }
+    ensures walked { Walked S.Pages space.old space.new walk.old.met walk.new.met }
     ensures refusal { RefusesHalt S.Pages space.old space.new result }
-    ensures asks { AsksWithin met.old result }
+    ensures asks { AsksWithin walk.old.met result }
 {
     let levels = tree_levels();
-    let mut rows = SchemaRows::new(alloc);
-    let mut payload = Vec::new(alloc);
-    match walk_table(
-        alloc,
-        space,
-        met,
-        &mut rows,
-        None,
-        levels,
-        None,
-        None,
-        1,
-        1,
-        buf,
-        &mut payload,
-    ) {
+    let depth = Depth { leaf: None, levels };
+    let unbounded = Bounds {
+        low: None,
+        high: None,
+    };
+    let mut rows = SchemaRows::new(walk.alloc);
+    match walk_table(space, walk, &mut rows, depth, unbounded, 1, 1) {
         Ok(_level) => Ok(rows.into_placed()),
         Err(halt) => Err(halt),
     }
 }
 
 // Tries all that is to be tried of pages that begin with this header, and answers what there is.
-fn try_all<S: Pages>(
-    alloc: Global,
-    space: &mut S,
-    met: &mut Met,
-    header: &Header,
-    buf: &mut [u8],
-) -> Result<Verdict, Halt>
-    requires { length buf.old ≡ S.Pages.size space.old }
-    ensures tried { TriesAll S.Pages space.new met.old met.new header.now result }
-    ensures walked { Walked S.Pages space.old space.new met.old met.new }
+fn try_all<S: Pages>(space: &mut S, walk: &mut Walk, header: &Header) -> Result<Verdict, Halt>
+    ensures tried { TriesAll S.Pages space.new walk.old.met walk.new.met header.now result }
+    ensures walked { Walked S.Pages space.old space.new walk.old.met walk.new.met }
     ensures refusal { RefusesHalt S.Pages space.old space.new result }
-    ensures asks { AsksWithin met.old result }
+    ensures asks { AsksWithin walk.old.met result }
 {
-    let placed = match try_schema(alloc, space, met, buf) {
+    let placed = match try_schema(space, walk) {
         Ok(placed) => placed,
         Err(halt) => return Err(halt),
     };
-    let rows = match try_objects(alloc, space, met, placed.as_slice(), buf) {
+    let rows = match try_objects(space, walk, placed.as_slice()) {
         Ok(rows) => rows,
         Err(halt) => return Err(halt),
     };
-    match try_free(space, met, header, buf) {
+    let mut bytes = walk.buffers.take(space.page_size())?;
+    match try_free(space, &mut walk.met, header, &mut bytes) {
         Ok(free) => Ok(Verdict::Stands {
             tables: count_tables(placed.as_slice()),
             rows,
@@ -138,9 +117,8 @@ pub fn check<S: Pages>(
 {
     counts_law();
     bounds_law();
-    let mut met = Met::new(alloc, pages)?;
-    let mut buf = vec![in alloc; 0u8; space.page_size() as usize]?;
-    match try_all(alloc, space, &mut met, header, buf.as_mut_slice()) {
+    let mut walk = Walk::new(alloc, pages)?;
+    match try_all(space, &mut walk, header) {
         Ok(verdict) => Ok(verdict),
         Err(Halt::Broken { page, rule }) => Ok(Verdict::Broken { page, rule }),
         Err(Halt::Space(fault)) => Err(fault),

@@ -17,3 +17,12 @@ pub mod ShownLemmas
 pub mod PlanLemmas
 pub mod RestLemmas
 pub mod WholeLemmas
+pub mod ListedLemmas
+pub mod CountedLemmas
+pub mod SupplyLemmas
+pub mod ServedLemmas
+pub mod StagesLemmas
+pub mod ServerLemmas
+pub mod RefusalLemmas
+pub mod DealLemmas
+pub mod MadeLemmas

@@ -41,10 +41,10 @@ use Rattle.spe_convert.proofs.ReleaseLemmas.{first_small, release_keeps}
 use Rattle.spe_convert.proofs.ShownLemmas.{listed_page, shown, sort_first, zero_first}
 
 module _ (headed : RecoveredAreHeaded) (wholes : QuietIsWhole) (found : Recovered) (limits : IsWithinLimits found) (content : Content) (pages : List (List ℕ)) (rests : AreResting found content pages) where
-  head : AreHeaded content pages
+  pub head : AreHeaded content pages
   head = headed content pages rests.idle.recovers
 
-  page_is : (n : ℕ) → IsOneOf found.pages n → page_in pages n ≡ file_page content n
+  pub page_is : (n : ℕ) → IsOneOf found.pages n → page_in pages n ≡ file_page content n
   page_is n inside =
       let many = rests.counted_are in
       let there = page_there pages n inside.0 (omega (arith, inside.1, many)) in
@@ -70,7 +70,7 @@ module _ (headed : RecoveredAreHeaded) (wholes : QuietIsWhole) (found : Recovere
       ap (λ (m : ℕ). take size (drop ((n - 1) * size) file) ++ zeros m) none ∙ append-nil (take size (drop ((n - 1) * size) file))
       ∙ ap (λ (s : ℕ). take s (drop ((n - 1) * s) file)) (sym rests.idle.sized) ∙ sym (page_is n inside)
 
-  long : 100 ≤ length (page_in pages 1)
+  pub long : 100 ≤ length (page_in pages 1)
   long =
       let size = file_page_size content in
       let all = wholes content pages rests.idle.recovers rests.idle.quiet in
@@ -80,10 +80,10 @@ module _ (headed : RecoveredAreHeaded) (wholes : QuietIsWhole) (found : Recovere
       let low = limits.low in
       omega (arith, is, sized, low)
 
-  size_is : (header_in pages).page_size ≡ found.page_size
+  pub size_is : (header_in pages).page_size ≡ found.page_size
   size_is = head.sized ∙ rests.idle.sized
 
-  used : usable_in (header_in pages) ≡ usable_of found
+  pub used : usable_in (header_in pages) ≡ usable_of found
   used = ap (λ (s : ℕ). s - (header_in pages).reserved) size_is ∙ ap (λ (r : ℕ). found.page_size - r) rests.reserved
 
   sized : IsSized (header_in pages)
@@ -95,7 +95,7 @@ module _ (headed : RecoveredAreHeaded) (wholes : QuietIsWhole) (found : Recovere
         (subst (λ (r : ℕ). r + 480 ≤ found.page_size) (sym rests.reserved) limits.usable);
   }
 
-  with_free : (db : Data) (free : List ℕ) (s : StandsFor (usable_of found) found.pages (page_in pages) db) → AreSame free s.listed
+  pub with_free : (db : Data) (free : List ℕ) (s : StandsFor (usable_of found) found.pages (page_in pages) db) → AreSame free s.listed
       → StandsWith found.page_size (usable_of found) found.pages (page_in pages) db free
   with_free db free s same = record {
     header = header_in pages;

@@ -22,7 +22,8 @@ use Rattle.spe_rewrite.specs.declared.fault.RewriteFault.TheVariants as rewritin
 use Rattle.spe_rewrite.specs.Changes.{changed}
 use Rattle.spe_rewrite.specs.Idle.{AreIdle, MayRewrite}
 use Rattle.spe_rewrite.specs.Rewrite.{rewrite_of}
-use Rattle.spe_rewrite.specs.Told.{AddsSome, HasCauses, IfBothTold, IfTold, IsCausedBy, Makes, counted}
+use Rattle.spe_disk.specs.Added.{AddsSome, IfBothTold, IfTold, Makes}
+use Rattle.spe_rewrite.specs.Told.{HasCauses, IsCausedBy, counted}
 use Rattle.spe_rewrite.specs.Turns.{IsFront, KeepsIdle}
 use Rattle.spe_convert.specs.declared.fault.ConvertFault.{ConvertFault}
 use Rattle.spe_convert.specs.declared.fault.ConvertFault.TheVariants.{Corrupt, Disk, Full, Memory, Prepared}
@@ -35,25 +36,25 @@ use Rattle.spe_convert.proofs.CutLemmas.{covered_both, cut_behind, cut_longer, c
 use Rattle.spe_convert.proofs.RestLemmas.{held, may, released_are}
 
 -- nothing is left of no operations
-nothing_cut : (content : Content) (pages : List (List ℕ)) (cut : List Operation) → IsCut [] cut → Recovers content pages → Recovers (after content cut) pages
+pub nothing_cut : (content : Content) (pages : List (List ℕ)) (cut : List Operation) → IsCut [] cut → Recovers content pages → Recovers (after content cut) pages
 nothing_cut content pages [] is recovers = recovers
 nothing_cut content pages (c ∷ cs) is recovers = absurd is
 
-abbrev with_trace : Content → List Operation → Option History
+abbrev pub with_trace : Content → List Operation → Option History
 with_trace first trace = Some (record { first = first; trace = trace })
 
-abbrev trace_or : Option History → List Operation
+abbrev pub trace_or : Option History → List Operation
 trace_or None = []
 trace_or (Some h) = h.trace
 
 -- operations behind others
-adds_both : (h k : History) (new : Option History) (xs ys : List Operation) → Adds (Some h) (Some k) xs → Adds (Some k) new ys → Adds (Some h) new (xs ++ ys)
+pub adds_both : (h k : History) (new : Option History) (xs ys : List Operation) → Adds (Some h) (Some k) xs → Adds (Some k) new ys → Adds (Some h) new (xs ++ ys)
 adds_both h k new xs ys first rest =
     let same : k ≡ record { first = h.first; trace = h.trace ++ xs } = cc in
     let behind : History → Option History = λ j. with_trace j.first (j.trace ++ ys) in
     rest ∙ ap behind same ∙ ap (with_trace h.first) (append_assoc h.trace xs ys)
 
-after_made : (h k : History) (xs : List Operation) → Adds (Some h) (Some k) xs → present k ≡ after (present h) xs
+pub after_made : (h k : History) (xs : List Operation) → Adds (Some h) (Some k) xs → present k ≡ after (present h) xs
 after_made h k xs adds =
     let same : k ≡ record { first = h.first; trace = h.trace ++ xs } = cc in
     ap present same ∙ after-append h.first h.trace xs
@@ -163,7 +164,7 @@ module _ (headed : RecoveredAreHeaded) (wholes : QuietIsWhole) (found : Recovere
     holds = record { free = []; front = none_cut (releasing found made (present h) pages []); covered = tt; stops = λ cut within. inl (nothing_cut (present h) pages cut within rests.idle.recovers) };
   }
 
-  idle_found : (h : History) (pages : List (List ℕ)) → HasPlaces (Some h) → IsFound found (present h) pages → AreIdle found.page_size (present h) pages
+  pub idle_found : (h : History) (pages : List (List ℕ)) → HasPlaces (Some h) → IsFound found (present h) pages → AreIdle found.page_size (present h) pages
   idle_found h pages places is = record {
     files = files_stay_after h.first h.trace ∙ places;
     recovers = is.recovers;
@@ -172,7 +173,7 @@ module _ (headed : RecoveredAreHeaded) (wholes : QuietIsWhole) (found : Recovere
     quiet = is.quiet;
   }
 
-  resting : (h k : History) (made : ℕ) → IsMade found (Some h) (Some k) made → (pages : List (List ℕ)) → IsFound found (present h) pages → AreResting found (present k) pages
+  pub resting : (h k : History) (made : ℕ) → IsMade found (Some h) (Some k) made → (pages : List (List ℕ)) → IsFound found (present h) pages → AreResting found (present k) pages
   resting h k made m pages is = record {
     idle = m.idle found.page_size pages (idle_found h pages m.places is);
     counted_are = sym is.counted;
@@ -220,7 +221,7 @@ module _ (headed : RecoveredAreHeaded) (wholes : QuietIsWhole) (found : Recovere
   done_behind old mid new made (Err fault) m w = tt
 
   -- wherever a stop cuts the making of all absent journals
-  keeps_all : (h k : History) (made : ℕ) → IsMade found (Some h) (Some k) made → (pages : List (List ℕ)) → IsFound found (present h) pages
+  pub keeps_all : (h k : History) (made : ℕ) → IsMade found (Some h) (Some k) made → (pages : List (List ℕ)) → IsFound found (present h) pages
       → KeepsIdle found.page_size (present h) (makings (absent_journals (present h))) (makings (absent_journals (present h))) pages
   keeps_all h k made m pages is =
       let xs = makings (absent_journals (present h)) in

@@ -22,3 +22,22 @@ pub record HasReleaseCause {T : Type 0} (reads reads_now ops ops_now : ℕ) (res
   pub reads_later : reads ≤ reads_now
   pub ops_later : ops ≤ ops_now
   pub failed : IfErr result (IsReleaseFault reads reads_now ops ops_now)
+
+-- the same, where the pages may be too many, or in server form already
+abbrev pub IsPrepareFault : (reads reads_now ops ops_now : ℕ) → ConvertFault → Type 0
+IsPrepareFault reads reads_now ops ops_now Disk = Rose reads reads_now ⊎ Rose ops ops_now
+IsPrepareFault reads reads_now ops ops_now _ = Unit {0}
+
+pub record HasPrepareCause {T : Type 0} (reads reads_now ops ops_now : ℕ) (result : Result T ConvertFault) : Type 0 where
+  pub reads_later : reads ≤ reads_now
+  pub ops_later : ops ≤ ops_now
+  pub failed : IfErr result (IsPrepareFault reads reads_now ops ops_now)
+
+-- the same for a call that only reads
+abbrev pub IsRefusing : (before now : ℕ) → ConvertFault → Type 0
+IsRefusing before now Disk = Rose before now
+IsRefusing before now _ = Unit {0}
+
+pub record HasRefusing {T : Type 0} (before now : ℕ) (result : Result T ConvertFault) : Type 0 where
+  pub later : before ≤ now
+  pub failed : IfErr result (IsRefusing before now)

@@ -7,3 +7,4 @@ pub mod Reading
 pub mod Free
 pub mod Release
 pub mod Causes
+pub mod Prepare

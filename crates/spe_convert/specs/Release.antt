@@ -18,7 +18,8 @@ use Rattle.spe_rewrite.specs.declared.change.Change.{Change}
 use Rattle.spe_rewrite.specs.Changes.{changed}
 use Rattle.spe_rewrite.specs.Idle.{AreIdle}
 use Rattle.spe_rewrite.specs.Rewrite.{rewrite_of}
-use Rattle.spe_rewrite.specs.Told.{IfTold, counted}
+use Rattle.spe_disk.specs.Added.{IfTold}
+use Rattle.spe_rewrite.specs.Told.{counted}
 use Rattle.spe_convert.specs.Changes.{released_changes}
 use Rattle.spe_convert.specs.Reading.{WhereHeld, are_ascending, usable_of}
 

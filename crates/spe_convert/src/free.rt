@@ -14,13 +14,13 @@ use spe_disk::Disk;
 use spe_model::{Recovered, u32_of};
 use std::alloc::{AllocError, Global};
 
-fn is_list_count(count: u32) -> bool
+pub fn is_list_count(count: u32) -> bool
     ensures { result ≡ is_list_count count }
 {
     1 <= count && count <= 16
 }
 
-fn names_node(page: &[u8]) -> bool
+pub fn names_node(page: &[u8]) -> bool
     requires { 40 ≤ length page.now }
     ensures { result ≡ names_node page.now }
 {

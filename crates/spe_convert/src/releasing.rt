@@ -4,7 +4,7 @@ ghost use Rattle.std.specs.Prelude.{◌≡◌, ◌≢◌, ◌≤◌, ◌∷◌, 
 ghost use Rattle.spe_model.specs.Settled.{IsWithinLimits, page_in};
 ghost use Rattle.spe_disk.specs.Told.{absent_journals, makings};
 ghost use Rattle.spe_rewrite.specs.Changes.{AreChanges};
-ghost use Rattle.spe_rewrite.specs.Told.{AddsSome, IfTold, Makes};
+ghost use Rattle.spe_disk.specs.Added.{AddsSome, IfTold, Makes};
 ghost use Rattle.spe_convert.specs.Causes.{HasReleaseCause, fault_of};
 ghost use Rattle.spe_convert.specs.Changes.{front_change, released_changes};
 ghost use Rattle.spe_convert.specs.declared.fault.ConvertFault.TheVariants.{Disk};
@@ -119,7 +119,7 @@ fn plan<D: Disk>(
     Ok((count, changes))
 }
 
-fn fault_of(fault: RewriteFault) -> ConvertFault
+pub fn fault_of(fault: RewriteFault) -> ConvertFault
     ensures { result ≡ fault_of fault }
 {
     match fault {

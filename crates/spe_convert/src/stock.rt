@@ -97,7 +97,7 @@ pub fn chain_changes<D: Disk>(
 
 // How many leaves are written to a trunk at most.
 #[tactic(auto, unfolding(crate::specs::Trunk::room))]
-fn most_leaves(found: &Recovered) -> usize
+pub fn most_leaves(found: &Recovered) -> usize
     requires { IsWithinLimits found.now }
     ensures { result ≡ room (usable_of found.now) }
 {

@@ -1,4 +1,5 @@
 pub mod Told
+pub mod Added
 pub mod Sink
 pub mod Scripts
 pub mod Log

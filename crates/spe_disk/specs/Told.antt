@@ -33,8 +33,8 @@ abbrev pub Measures : Option History → FileNo → Result (Option ℕ) Failed �
 Measures told file result = WhereTold told result (λ content size. size ≡ option_map length (file_of content file))
 
 -- n bytes of a file from a place on, with zeros past its end, and how many of them were there
-abbrev pub Reads : Option History → FileNo → ℕ → ℕ → List ℕ → Result ℕ Failed → Type 0
-Reads told file at n bytes result =
+abbrev pub ReadsBytes : Option History → FileNo → ℕ → ℕ → List ℕ → Result ℕ Failed → Type 0
+ReadsBytes told file at n bytes result =
     WhereTold told result
     (λ content count. (bytes ≡ filled (bytes_of content file) at n) × (count ≡ min n (length (bytes_of content file) - at)))
 

@@ -4,7 +4,7 @@ ghost use Rattle.std.specs.Prelude.{◌≡◌, ℕ, Bool, true, false, Option, I
 ghost use Rattle.spe_model.specs.Content.{IsFile};
 ghost use Rattle.spe_model.specs.Trace.{History};
 ghost use Rattle.spe_model.specs.Faults.{HasCause};
-ghost use Rattle.spe_disk.specs.Told.{HasPlaces, NothingDone, Finds, Measures, Reads, Writes, Cuts, MakesJournals};
+ghost use Rattle.spe_disk.specs.Told.{HasPlaces, NothingDone, Finds, Measures, ReadsBytes, Writes, Cuts, MakesJournals};
 
 use spe_model::FileNo;
 use thiserror::Error;
@@ -56,7 +56,7 @@ pub trait Disk {
         requires attached { attached self.old ≡ true }
         requires numbered { IsFile file }
         ensures within { IfOk result (λ n. n ≤ length buf.old) }
-        ensures bytes { Reads (told self.old) file at (length buf.old) buf.new result }
+        ensures bytes { ReadsBytes (told self.old) file at (length buf.old) buf.new result }
         ensures same { told self.new ≡ told self.old }
         ensures attached { attached self.new ≡ true }
         ensures cause { HasCause (read_faults self.old) (read_faults self.new) result }

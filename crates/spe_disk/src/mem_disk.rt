@@ -12,7 +12,7 @@ impl Disk for MemDisk {
     ghost use Rattle.spe_model.specs.Content.{IsFile};
     ghost use Rattle.spe_model.specs.Trace.{Operation, present};
     ghost use Rattle.spe_model.specs.Faults.{HasCause};
-    ghost use Rattle.spe_disk.specs.Told.{Finds, Measures, Reads, Writes, Cuts, MakesJournals};
+    ghost use Rattle.spe_disk.specs.Told.{Finds, Measures, ReadsBytes, Writes, Cuts, MakesJournals};
     ghost use Rattle.spe_disk.specs.Held.{room_taken};
     ghost use Rattle.spe_disk.specs.Memory.{history_of, is_attached, read_fault_count, op_fault_count, read_count, free_room, ReadsAsListed, OperatesAsListed, MakesAsListed, IsSameDisk};
 
@@ -60,7 +60,7 @@ impl Disk for MemDisk {
         requires attached { is_attached self.old ≡ true }
         requires numbered { IsFile file }
         ensures within { IfOk result (λ n. n ≤ length buf.old) }
-        ensures bytes { Reads (Some (history_of self.old)) file at (length buf.old) buf.new result }
+        ensures bytes { ReadsBytes (Some (history_of self.old)) file at (length buf.old) buf.new result }
         ensures same { Some (history_of self.new) ≡ Some (history_of self.old) }
         ensures attached { is_attached self.new ≡ true }
         ensures cause { HasCause (read_fault_count self.old) (read_fault_count self.new) result }

@@ -1,5 +1,5 @@
 -- The pages that a statement that reads gets.
-use Rattle.std.proofs.Common.{◌≡◌, ◌⊎◌, inl, inr, ℕ, ℤ, Bool, List, Option, Some, None, refl, sym, ◌∙◌, subst}
+use Rattle.std.proofs.Common.{◌≡◌, ◌⊎◌, inl, inr, ℕ, ℤ, Bool, List, Option, Some, None, refl, sym, subst}
 use Rattle.spe_model.specs.declared.catalog.Entry.{Entry}
 use Rattle.spe_model.specs.declared.statement.Cond.{Cond}
 use Rattle.spe_model.specs.declared.statement.Statement.{Statement}
@@ -8,8 +8,8 @@ use Rattle.spe_model.specs.Database.{Database}
 use Rattle.spe_model.specs.Paging.{Paging, Agrees}
 use Rattle.spe_model.specs.Rows.{table_named}
 use Rattle.spe_model.specs.Statement.{table_name, conds_of}
-use Rattle.spe_model.specs.Tree.{rank, IsTableTree, tree_rows}
-use Rattle.spe_space.specs.Calls.{Reads, sight}
+use Rattle.spe_model.specs.Tree.{rank}
+use Rattle.spe_space.specs.Calls.{sight}
 use Rattle.spe_space.specs.declared.pages.Pages.{Ghosts}
 use Rattle.spe_search.specs.Range.{AddsOfRange}
 use Rattle.spe_slow.specs.Refused.{rowless_refusal}

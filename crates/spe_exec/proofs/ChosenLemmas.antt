@@ -1,5 +1,5 @@
 -- The stored rows that conditions choose.
-use Rattle.std.proofs.Common.{◌≡◌, inl, inr, ℕ, suc, ℤ, pos, negsuc, Bool, true, false, nat_le, List, [], ◌∷◌, filter, length, Option, Some, None, Result, refl, sym, ap, arith, subst, int_le}
+use Rattle.std.proofs.Common.{◌≡◌, ℕ, suc, ℤ, pos, negsuc, Bool, true, false, nat_le, List, [], ◌∷◌, filter, length, Option, Some, None, Result, refl, sym, ap, arith, subst, int_le}
 use Rattle.std.proofs.lemmas.Bool.Decides.{nat_tests}
 use Rattle.spe_model.specs.declared.statement.Cond.{Cond}
 use Rattle.spe_model.specs.declared.table.TableDef.{TableDef}

@@ -1,5 +1,5 @@
 -- The pages that a statement asks for, where the pages stand for a database: each is one of these.
-use Rattle.std.proofs.Common.{◌≡◌, inl, inr, ℕ, zero, suc, ◌+◌, ◌<◌, Bool, true, false, not, ◌==◌, List, [], ◌∷◌, ◌++◌, Option, Some, None, Result, Ok, Err, All, is_some, refl, sym, ap, ◌∙◌, subst}
+use Rattle.std.proofs.Common.{◌≡◌, inl, inr, ℕ, zero, suc, ◌+◌, Bool, true, false, not, ◌==◌, List, [], ◌∷◌, ◌++◌, Option, Some, None, Result, Ok, Err, All, is_some, refl, sym, ap, ◌∙◌, subst}
 use Rattle.std.specs.List.{find, flat_map}
 use Rattle.std.proofs.lemmas.List.Elements.{All-cons, All-head, All-nil, All-tail}
 use Rattle.spe_model.specs.declared.catalog.Entry.{Entry}
@@ -11,7 +11,7 @@ use Rattle.spe_model.specs.declared.page.PageFault.{PageFault}
 use Rattle.spe_model.specs.declared.statement.Cond.{Cond}
 use Rattle.spe_model.specs.declared.statement.Statement.{Statement}
 use Rattle.spe_model.specs.Database.{Database}
-use Rattle.spe_model.specs.Paging.{Paging, Agrees}
+use Rattle.spe_model.specs.Paging.{Paging}
 use Rattle.spe_model.specs.Schema.{SchemaRow, is_table_row, is_index_page, is_closed_by, is_rooted, root_of, table_of, entry_of}
 use Rattle.spe_model.specs.Standing.{Whether, Tree, HasTree, AreEntries, all_pages, pages_of_some}
 use Rattle.spe_model.specs.Statement.{table_name, conds_of}

@@ -24,10 +24,10 @@ use Rattle.spe_model.specs.Statement.{table_name, is_write}
 use Rattle.spe_space.specs.declared.pages.Pages.{Ghosts}
 use Rattle.spe_space.proofs.FrontLemmas.{u32_at-take}
 use Rattle.spe_exec.specs.Run.{StandsWith}
-use Rattle.spe_exec.specs.Justifying.{JustifiedNone, JustifiedMore}
+use Rattle.spe_exec.specs.Justifying.{JustifiedNone, JustifiedMore, JustifiedHere, JustifiedRun}
 
 -- a statement that reads leaves the database
-reads_leave : (kind : TxKind) (db : Database) (s : Statement) → is_write s ≡ false → (meaning kind db s).0 ≡ db
+pub reads_leave : (kind : TxKind) (db : Database) (s : Statement) → is_write s ≡ false → (meaning kind db s).0 ≡ db
 reads_leave kind db s h = go (refusal_of kind db s)
   where
     found : (named : Option (TableDef × List Row)) → (accepted named db s).0 ≡ db
@@ -39,12 +39,12 @@ reads_leave kind db s h = go (refusal_of kind db s)
     go None = found (table_named (table_name s) db)
 
 -- one statement after the others
-replies_more : (kind : TxKind) (db : Database) (ss : List Statement) (s : Statement)
+pub replies_more : (kind : TxKind) (db : Database) (ss : List Statement) (s : Statement)
     → replies_from kind db (ss ++ s ∷ []) ≡ replies_from kind db ss ++ (meaning kind (result_from kind db ss) s).1 ∷ []
 replies_more kind db [] s = refl
 replies_more kind db (x ∷ xs) s = ap (λ (rs : List Reply). (meaning kind db x).1 ∷ rs) (replies_more kind (meaning kind db x).0 xs s)
 
-result_more : (kind : TxKind) (db : Database) (ss : List Statement) (s : Statement) → result_from kind db (ss ++ s ∷ []) ≡ (meaning kind (result_from kind db ss) s).0
+pub result_more : (kind : TxKind) (db : Database) (ss : List Statement) (s : Statement) → result_from kind db (ss ++ s ∷ []) ≡ (meaning kind (result_from kind db ss) s).0
 result_more kind db [] s = refl
 result_more kind db (x ∷ xs) s = result_more kind (meaning kind db x).0 xs s
 
@@ -54,7 +54,7 @@ stands_with : (usable other count : ℕ) (pages : Paging) (catalog : List Entry)
 stands_with usable other count pages catalog db stands e c =
     subst (λ (u : ℕ). StandsWith u count pages catalog db) e (record { stands = stands; catalog_is = sym c })
 
-served_with : (opening : Opening) (count used : ℕ) (pages : Paging) (db : Database) → used ≡ opening.usable → ServedSince opening count pages db → StandsWith used count pages opening.catalog db
+pub served_with : (opening : Opening) (count used : ℕ) (pages : Paging) (db : Database) → used ≡ opening.usable → ServedSince opening count pages db → StandsWith used count pages opening.catalog db
 served_with opening count used pages db u since =
     stands_with _ used count pages opening.catalog db since.served.stands (since.usable ∙ sym u) since.catalog
 
@@ -89,4 +89,21 @@ more g opening asked early late s reply used reads justified gives kept = record
   left = λ count pages db since agrees.
       let after = justified.left count pages db since (kept.earlier pages agrees) in
       rw (kept.laid, result_more asked.kind db asked.statements s, reads_leave asked.kind (result_from asked.kind db asked.statements) s reads) after;
+}
+
+pub here : {P : Type 0} (g : Ghosts P) → JustifiedHere g
+here g opening asked s justified = record {
+  replied = justified.replied;
+  left = λ count pages db since agrees. (justified.served count pages db since agrees).since;
+}
+
+pub run_more : {P : Type 0} (g : Ghosts P) → JustifiedRun g
+run_more g opening asked early late s reply lists justified means kept = record {
+  replied = λ count pages db since agrees.
+      let before = kept.earlier pages agrees in
+      let meant = means opening pages (result_from asked.kind db asked.statements) agrees lists (justified.served count pages db since before) refl in
+      rw (replies_more asked.kind db asked.statements s, ← meant.reply_is, ← justified.replied count pages db since before) refl;
+  served = λ count pages db since agrees.
+      let meant = means opening pages (result_from asked.kind db asked.statements) agrees lists (justified.served count pages db since (kept.earlier pages agrees)) refl in
+      rw (result_more asked.kind db asked.statements s) meant.served;
 }

@@ -8,3 +8,8 @@ mod AddsLemmas
 mod MissesLemmas
 mod JustifyingLemmas
 mod InsideLemmas
+mod GetsLemmas
+mod StoredLemmas
+mod InsertLemmas
+mod OpenLemmas
+mod WritesLemmas

@@ -1,5 +1,5 @@
 -- The pages that a statement that reads asks for and that are none of the space's.
-use Rattle.std.proofs.Common.{◌≡◌, ◌⊎◌, ℕ, ℤ, ◌<◌, List, Option, Some, None, Result, Err, IfErr, sym, ◌∙◌, subst}
+use Rattle.std.proofs.Common.{◌≡◌, ◌⊎◌, ℕ, ℤ, ◌<◌, List, Option, Some, None, Result, IfErr, sym, subst}
 use Rattle.spe_model.specs.declared.catalog.Entry.{Entry}
 use Rattle.spe_model.specs.declared.statement.Cond.{Cond}
 use Rattle.spe_model.specs.declared.statement.Statement.{Statement}
@@ -7,7 +7,7 @@ use Rattle.spe_model.specs.Database.{Database}
 use Rattle.spe_model.specs.Paging.{Paging, Agrees}
 use Rattle.spe_model.specs.Rows.{table_named}
 use Rattle.spe_model.specs.Statement.{table_name, conds_of}
-use Rattle.spe_model.specs.Tree.{rank, IsTableTree}
+use Rattle.spe_model.specs.Tree.{rank}
 use Rattle.spe_space.specs.Calls.{sight}
 use Rattle.spe_space.specs.Found.{OnMissing, misses_weaker}
 use Rattle.spe_space.specs.declared.pages.Pages.{Ghosts}

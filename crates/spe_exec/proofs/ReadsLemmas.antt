@@ -1,5 +1,5 @@
 -- What a statement that reads answers.
-use Rattle.std.proofs.Common.{◌≡◌, ◌⊎◌, inl, inr, ℕ, zero, suc, ℤ, ◌<◌, Bool, true, false, ◌&&◌, List, [], ◌∷◌, length, map, Option, Some, None, Result, Ok, Err, is_some, refl, sym, ap, ◌∙◌, arith, subst}
+use Rattle.std.proofs.Common.{◌≡◌, inl, inr, ℕ, zero, suc, ℤ, Bool, true, false, ◌&&◌, List, [], ◌∷◌, length, map, Option, Some, None, Result, Err, is_some, refl, sym, ap, ◌∙◌, arith, subst}
 use Rattle.std.specs.List.{Contains}
 use Rattle.std.specs.declared.vec.Vec.{Vec}
 use Rattle.std.specs.declared.alloc.Global.{Global}
@@ -22,19 +22,17 @@ use Rattle.spe_model.specs.Conditions.{chosen}
 use Rattle.spe_model.specs.Database.{Database, Row}
 use Rattle.spe_model.specs.Meaning.{meaning, reply_to}
 use Rattle.spe_model.specs.Naming.{meant_by}
-use Rattle.spe_model.specs.Paging.{Paging, Agrees}
+use Rattle.spe_model.specs.Paging.{Paging}
 use Rattle.spe_model.specs.Refusals.{is_rowid_taken, are_rowids_used_up, is_too_large}
 use Rattle.spe_model.specs.Rows.{table_named, selected}
 use Rattle.spe_model.specs.Standing.{AreTableRows}
 use Rattle.spe_model.specs.Statement.{table_name, is_write, is_read_only}
 use Rattle.spe_model.specs.Tree.{IsTableTree, tree_rows}
-use Rattle.spe_space.specs.Calls.{Reads, sight}
 use Rattle.spe_space.specs.Found.{Answers}
-use Rattle.spe_space.specs.declared.pages.Pages.{Ghosts}
 use Rattle.spe_space.specs.declared.fault.TreeFault.{TreeFault}
 use Rattle.spe_space.specs.declared.fault.TreeFault.TheVariants.{Space, Corrupt}
 use Rattle.spe_search.specs.declared.pairs.Pair.{Pair}
-use Rattle.spe_search.specs.Found.{HasCause}
+use Rattle.spe_search.specs.Found.{HasDamage}
 use Rattle.spe_search.specs.Leaves.{IsRead}
 use Rattle.spe_search.specs.Pairs.{pair_seen}
 use Rattle.spe_slow.specs.Answers.{rows_answer, table_answer, rows_refusal, answered_with}
@@ -67,7 +65,7 @@ pub shown_rows : (table : TableDef) (all : Bool) (names : List Named) (stored : 
 shown_rows table all names stored shown rows e h = subst (λ (s : Shown). Shows table all names stored s) e h
 
 -- a fault of the walk, as the cause of a statement's
-pub walk_cause : (X Y : Type 0) (usable : ℕ) (pages : Paging) (entry : Entry) (fault : TreeFault) → HasCause {X = X} usable pages entry.root 20 (Err fault)
+pub walk_cause : (X Y : Type 0) (usable : ℕ) (pages : Paging) (entry : Entry) (fault : TreeFault) → HasDamage {X = X} usable pages entry.root 20 (Err fault)
     → HasRowsCause {X = Y} usable pages entry (Err fault)
 walk_cause X Y usable pages entry (Space f) h = tt
 walk_cause X Y usable pages entry (Corrupt at) h = inr h

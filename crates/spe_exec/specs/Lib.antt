@@ -4,4 +4,6 @@ pub mod Rows
 pub mod Run
 pub mod Adds
 pub mod Misses
+pub mod Inserts
+pub mod Writes
 pub mod Justifying

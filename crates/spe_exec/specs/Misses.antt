@@ -1,5 +1,5 @@
 -- The pages that a statement that reads asks for and that are none of the space's.
-use Rattle.std.specs.Prelude.{◌≡◌, ◌⊎◌, ℕ, ℤ, ◌<◌, List, Some, Result, IfErr, false, is_some}
+use Rattle.std.specs.Prelude.{◌≡◌, ◌⊎◌, ℕ, ◌<◌, List, Some, Result, IfErr, false, is_some}
 use Rattle.std.specs.List.{Contains}
 use Rattle.spe_model.specs.declared.catalog.Entry.{Entry}
 use Rattle.spe_model.specs.declared.statement.Cond.{Cond}

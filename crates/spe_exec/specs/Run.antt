@@ -2,10 +2,8 @@
 use Rattle.std.specs.Prelude.{◌≡◌, ◌⊎◌, ℕ, ℤ, List, [], filter, map, Option, Some, None, Result, Ok, Err, is_some}
 use Rattle.spe_model.specs.declared.catalog.Entry.{Entry}
 use Rattle.spe_model.specs.declared.reply.Reply.{Reply}
-use Rattle.spe_model.specs.declared.reply.Reply.TheVariants as replies
 use Rattle.spe_model.specs.declared.statement.Cond.{Cond}
 use Rattle.spe_model.specs.declared.statement.Statement.{Statement}
-use Rattle.spe_model.specs.declared.table.TableDef.{TableDef}
 use Rattle.spe_model.specs.declared.transaction.TxKind.{TxKind}
 use Rattle.spe_model.specs.Conditions.{is_chosen}
 use Rattle.spe_model.specs.Database.{Database, Row}
@@ -21,7 +19,7 @@ use Rattle.spe_space.specs.declared.pages.Pages.{Ghosts}
 use Rattle.spe_space.specs.declared.fault.TreeFault.{TreeFault}
 use Rattle.spe_space.specs.declared.fault.TreeFault.TheVariants.{Space, Corrupt}
 use Rattle.spe_search.specs.declared.pairs.Pair.{Pair}
-use Rattle.spe_search.specs.Found.{HasCause}
+use Rattle.spe_search.specs.Found.{HasDamage}
 use Rattle.spe_search.specs.Leaves.{IsRead}
 use Rattle.spe_search.specs.Pairs.{pair_seen}
 use Rattle.spe_slow.specs.Answers.{table_answer}
@@ -68,7 +66,7 @@ pub record HasBadRow (usable : ℕ) (pages : Paging) (entry : Entry) (at : ℕ) 
 abbrev pub HasRowsCause : {X : Type 0} (usable : ℕ) (pages : Paging) (entry : Entry) → Result X TreeFault → Type 0
 HasRowsCause usable pages entry (Ok x) = Unit {0}
 HasRowsCause usable pages entry (Err (Space f)) = Unit {0}
-HasRowsCause {X} usable pages entry (Err (Corrupt at)) = HasBadRow usable pages entry at ⊎ HasCause {X = X} usable pages entry.root 20 (Err (Corrupt at))
+HasRowsCause {X} usable pages entry (Err (Corrupt at)) = HasBadRow usable pages entry at ⊎ HasDamage {X = X} usable pages entry.root 20 (Err (Corrupt at))
 
 -- Corrupt comes only for the leaf of such a row, or as of a walk over the table's tree
 abbrev pub NamesRows : {P X : Type 0} (g : Ghosts P) (early late : P) (entry : Entry) (result : Result X TreeFault) → Type 0

@@ -90,7 +90,7 @@ fn count<S: Pages>(
 }
 
 // What a statement that reads answers on an open table, which does not refuse it.
-fn read<S: Pages>(
+fn read_rows<S: Pages>(
     alloc: Global,
     space: &mut S,
     entry: &Entry,
@@ -144,11 +144,11 @@ fn answer<S: Pages>(
 {
     match rowless_refusal(&entry.table, statement) {
         Some(refusal) => Ok(Reply::Refused(refusal)),
-        None => read(alloc, space, entry, statement),
+        None => read_rows(alloc, space, entry, statement),
     }
 }
 
-// What `run` answers.
+// What `read` answers.
 fn reply<S: Pages>(
     alloc: Global,
     space: &mut S,
@@ -178,7 +178,7 @@ fn reply<S: Pages>(
 /// rows. The kind of the transaction makes no difference to such a statement. Corrupt and PageOut are as
 /// of `range`; Corrupt may also name the leaf that a row was read from which a SELECT would show and
 /// whose record is damaged or has fields for which the table has no columns.
-pub fn run<S: Pages>(
+pub fn read<S: Pages>(
     alloc: Global,
     space: &mut S,
     catalog: &Catalog,

@@ -1,11 +1,13 @@
 //! A disk of real files.
 
 use crate::file_fault::FileFault;
+use crate::journals_folder::remove_folder;
 use crate::open_files::OpenFiles;
 use spe_disk::{Disk, Failed};
 use spe_model::FileNo;
 use std::alloc::{AllocError, Global};
 use std::fs::File;
+use std::io;
 use std::rt::Files;
 
 /// The files of a database: the file of its name, and its journals in the folder of that name with
@@ -73,6 +75,18 @@ impl<'a, R: Files<File = File>> FileDisk<'a, R> {
         self.op_faults = self.op_faults.saturating_add(1);
         self.first_fault = Some(self.first_fault.unwrap_or(why));
         Failed
+    }
+}
+
+impl<R: Files<File = File> + Alloc<A = Global> + Clone + Drop> FileDisk<'_, R> {
+    /// Removes the journals and their folder, where every journal is empty and nothing else is in the
+    /// folder. `false` where that is not so, and nothing was removed. No fault is counted.
+    ///
+    /// To be called where the database needs no journals any more: `sqlite3` answers "disk I/O error" for a
+    /// database beside which such a folder stands.
+    pub fn remove_journals(&self) -> io::Result<bool> {
+        let folder = self.files.folder_path()?;
+        remove_folder(self.files.runtime(), folder.as_str())
     }
 }
 

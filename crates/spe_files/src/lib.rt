@@ -7,6 +7,7 @@
 mod file_disk;
 mod file_fault;
 mod file_scripts;
+mod journals_folder;
 mod open_files;
 mod out_sink;
 mod stock_journal;

@@ -161,7 +161,13 @@ impl<'a, R: Files<File = File>> OpenFiles<'a, R> {
         }
     }
 
-    fn folder_path(&self) -> Result<String, AllocError> {
+    /// The runtime that opens them.
+    pub fn runtime(&self) -> &'a R {
+        self.rt
+    }
+
+    /// The path of the folder of journals.
+    pub fn folder_path(&self) -> Result<String, AllocError> {
         let name = self.name.as_str();
         format!(in self.alloc; "{name}-journal")
     }

@@ -1,5 +1,5 @@
 -- A cell that is written reads back.
-use Rattle.std.proofs.Common.{◌≡◌, ◌≢◌, ℕ, suc, ◌+◌, ◌-◌, ◌*◌, ◌/◌, ◌^◌, ℤ, ◌≤◌, ◌<◌, pos, List, [], ◌∷◌, ◌++◌, length, take, drop, Bool, true, false, refl, sym, ap, ◌∙◌, arith, append_assoc, length-append, Option, Some, None, inl, inr, subst}
+use Rattle.std.proofs.Common.{◌≡◌, ℕ, ◌-◌, ◌*◌, ◌/◌, ◌^◌, ℤ, ◌≤◌, ◌<◌, pos, List, [], ◌∷◌, ◌++◌, length, true, false, refl, sym, ap, arith, append_assoc, length-append, Option, Some, inl, inr}
 use Rattle.std.proofs.lemmas.Bool.{cases_lt, cases_eq, lt-ltb, le-ltb, eq-eqb, ne_eqb}
 use Rattle.std.proofs.lemmas.Int.{to_z-of_z}
 use Rattle.std.proofs.lemmas.List.{take_at, drop_at}
@@ -14,11 +14,11 @@ use Rattle.spe_model.specs.declared.page.Cell.{Cell}
 use Rattle.spe_model.specs.declared.page.Kind.{Kind}
 use Rattle.spe_model.specs.declared.page.Kind.TheVariants.{TableLeaf, TableInterior, IndexLeaf, IndexInterior}
 use Rattle.spe_model.specs.Big.{u32_at}
-use Rattle.spe_model.specs.Cell.{◌>>=◌, number_at, long_at, left_at, payload_at, key_at, bytes_at, chain_at, size_of, cell_at}
+use Rattle.spe_model.specs.Cell.{◌>>=◌, number_at, long_at, left_at, payload_at, key_at, bytes_at, chain_at, cell_at}
 use Rattle.spe_model.specs.Kind.{is_leaf, is_table, has_payload}
 use Rattle.spe_model.specs.Varint.{varint_of, varint_length}
 use Rattle.spe_format.specs.Canonical.{left_bytes, payload_bytes, key_bytes, chain_bytes, cell_bytes, IsWritableCell, IsInRange}
-use Rattle.spe_format.specs.Spelling.{varint_bytes, groups}
+use Rattle.spe_format.specs.Spelling.{varint_bytes}
 use Rattle.spe_format.proofs.VarintLemmas.{groups_length, spelled, spelled_few, reads_back}
 
 -- a length of spellings that a number fits

@@ -1,7 +1,6 @@
 -- Bytes put at a place in others.
-use Rattle.std.proofs.Common.{◌≡◌, ℕ, ◌+◌, ◌-◌, ◌≤◌, ◌<◌, List, [], ◌∷◌, ◌++◌, length, take, drop, refl, sym, ap, ◌∙◌, arith, append_assoc, length-append, length-drop}
+use Rattle.std.proofs.Common.{◌≡◌, ℕ, ◌+◌, ◌-◌, ◌≤◌, List, [], ◌++◌, length, take, drop, refl, sym, ap, ◌∙◌, arith, append_assoc, length-append, length-drop}
 use Rattle.std.proofs.lemmas.List.{take-append-drop, take-append-le, take-take, take_at, drop_at, drop-drop, length-take-le}
-use Rattle.std.specs.Prelude.{replicate}
 use Rattle.byteorder.specs.Endian.{big_bytes}
 use Rattle.spe_format.specs.Canonical.{splice}
 

@@ -3,14 +3,14 @@ use Rattle.std.specs.Prelude.{◌≡◌, Option, Some, None, Result, Ok, Err}
 use Rattle.spe_model.specs.declared.page.PageFault.{PageFault}
 use Rattle.spe_model.specs.declared.page.PageFault.TheVariants.{CellOut, Memory}
 
-abbrev pub Fails : {X : Type 0} → PageFault → Result X PageFault → Type 0
-Fails Memory reading = Unit {0}
-Fails fault reading = reading ≡ Err fault
+abbrev pub FailsPage : {X : Type 0} → PageFault → Result X PageFault → Type 0
+FailsPage Memory reading = Unit {0}
+FailsPage fault reading = reading ≡ Err fault
 
 -- the answer is what reading gives, or Memory
-abbrev pub Gives : {X : Type 0} → Result X PageFault → Result X PageFault → Type 0
-Gives (Ok x) reading = reading ≡ Ok x
-Gives (Err fault) reading = Fails fault reading
+abbrev pub GivesPage : {X : Type 0} → Result X PageFault → Result X PageFault → Type 0
+GivesPage (Ok x) reading = reading ≡ Ok x
+GivesPage (Err fault) reading = FailsPage fault reading
 
 abbrev pub NoCells : {Y : Type 0} → PageFault → Option Y → Type 0
 NoCells CellOut found = found ≡ None

@@ -1,5 +1,5 @@
 -- The shortest spelling of a number as a varint, which is the one that is written.
-use Rattle.std.specs.Prelude.{ℕ, zero, suc, ◌+◌, ◌-◌, ◌*◌, ◌/◌, ◌%◌, ◌<◌, List, [], ◌∷◌, ◌++◌, ◌==◌, if◌then◌else◌, slice_index}
+use Rattle.std.specs.Prelude.{ℕ, zero, suc, ◌+◌, ◌-◌, ◌/◌, ◌%◌, ◌<◌, List, [], ◌∷◌, ◌++◌, ◌==◌, if◌then◌else◌, slice_index}
 use Rattle.spe_model.specs.Varint.{varint_length}
 
 -- the lowest n groups of seven bits, the highest first, each as a byte that others follow

@@ -4,7 +4,7 @@ ghost use Rattle.std.specs.Prelude.{◌≡◌, ◌≤◌, IfOk, IfSome, IsTrue, 
 ghost use Rattle.std.specs.List.{list_all, list_any};
 ghost use Rattle.std.specs.Option.{option_map};
 ghost use Rattle.spe_model.specs.Page.{apart, is_within, placed_at, placed_all};
-ghost use Rattle.spe_format.specs.Answers.{FindsCells, Gives};
+ghost use Rattle.spe_format.specs.Answers.{FindsCells, GivesPage};
 ghost use Rattle.spe_format.specs.Layout.{is_span, is_taken, with_taken, are_free, layout_of};
 
 use crate::cell::cell_of;
@@ -106,7 +106,7 @@ pub fn check_layout(
     requires low { 480 ≤ length page.now }
     requires high { length page.now ≤ 65536 }
     requires within { IsTrue (list_all (is_within 0 (length page.now)) offsets.now) }
-    ensures { Gives result (layout_of (placed_all kind (length page.now) page.now offsets.now)) }
+    ensures { GivesPage result (layout_of (placed_all kind (length page.now) page.now offsets.now)) }
 {
     let spans = spans_of(alloc, kind, page, offsets)?;
     if are_apart(alloc, spans.as_slice(), page.len())? {

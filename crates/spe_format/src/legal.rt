@@ -4,7 +4,7 @@ ghost use Rattle.std.specs.Prelude.{◌≡◌, ◌≤◌, ◌<◌, ◌⊎◌, �
 ghost use Rattle.std.specs.List.{list_all};
 ghost use Rattle.std.specs.Option.{option_map};
 ghost use Rattle.spe_model.specs.Page.{is_within, numbers, page_at, placed_all};
-ghost use Rattle.spe_format.specs.Answers.{Gives};
+ghost use Rattle.spe_format.specs.Answers.{GivesPage};
 ghost use Rattle.spe_format.specs.Layout.{layout_of};
 ghost use Rattle.spe_format.specs.Legal.{Leads, legality_of, sorted_of};
 ghost use Rattle.spe_format.specs.Order.{order_of};
@@ -60,7 +60,7 @@ fn check_overlap(
     requires high { length page.now ≤ 65536 }
     requires within { IsTrue (list_all (is_within 0 (length page.now)) (numbers array.now)) }
     requires order { Some order ≡ option_map order_of (placed_all kind (length page.now) page.now (numbers array.now)) }
-    ensures { Gives result (layout_of (placed_all kind (length page.now) page.now (numbers array.now))) }
+    ensures { GivesPage result (layout_of (placed_all kind (length page.now) page.now (numbers array.now))) }
 {
     if order.falls {
         return Ok(());
@@ -74,15 +74,12 @@ fn check_cells(alloc: Global, kind: Kind, page: &[u8], array: &[u8]) -> Result<(
     requires low { 480 ≤ length page.now }
     requires high { length page.now ≤ 65536 }
     requires within { IsTrue (list_all (is_within 0 (length page.now)) (numbers array.now)) }
-    ensures { Gives result (sorted_of kind (placed_all kind (length page.now) page.now (numbers array.now))) }
+    ensures { GivesPage result (sorted_of kind (placed_all kind (length page.now) page.now (numbers array.now))) }
 {
     let Some(order) = order_of(kind, page, array) else {
         return Err(PageFault::CellOut);
     };
-    match check_overlap(alloc, order, kind, page, array) {
-        Ok(()) => {}
-        Err(fault) => return Err(fault),
-    }
+    check_overlap(alloc, order, kind, page, array)?;
     if is_table(kind) && !order.rises {
         return Err(PageFault::OutOfOrder);
     }
@@ -95,7 +92,7 @@ fn check_page(alloc: Global, page: &[u8], at: usize) -> Result<(), PageFault>
     requires at { (at ≡ 0) ⊎ (at ≡ 100) }
     requires low { 480 ≤ length page.now }
     requires high { length page.now ≤ 65536 }
-    ensures { Gives result (legality_of (page_at page.now at)) }
+    ensures { GivesPage result (legality_of (page_at page.now at)) }
 {
     let Some(kind) = kind_named(page[at]) else {
         return Err(PageFault::BadType);
@@ -160,13 +157,10 @@ impl<'a> LegalPage<'a> {
         requires low { 480 ≤ usable }
         requires high { usable ≤ 65536 }
         requires inside { usable ≤ length page.now }
-        ensures { Gives result (page_at (take usable page.now) at) }
+        ensures { GivesPage result (page_at (take usable page.now) at) }
     {
         let (front, _) = page.split_at(usable);
-        match check_page(alloc, front, at) {
-            Ok(()) => {}
-            Err(fault) => return Err(fault),
-        }
+        check_page(alloc, front, at)?;
         match PageView::new(page, at, usable) {
             Ok(view) => Ok(LegalPage { view }),
             Err(fault) => Err(fault),

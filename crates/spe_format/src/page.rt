@@ -2,7 +2,7 @@
 
 ghost use Rattle.std.specs.Prelude.{◌≡◌, ◌≤◌, ◌⊎◌, Ok, length, take};
 ghost use Rattle.spe_model.specs.Page.{page_at};
-ghost use Rattle.spe_format.specs.Answers.{Gives};
+ghost use Rattle.spe_format.specs.Answers.{GivesPage};
 ghost use Rattle.spe_format.specs.Canonical.{IsWritable};
 
 use crate::legal::LegalPage;
@@ -25,7 +25,7 @@ pub fn read_page(
     requires low { 480 ≤ usable }
     requires high { usable ≤ 65536 }
     requires inside { usable ≤ length page.now }
-    ensures { Gives result (page_at (take usable page.now) at) }
+    ensures { GivesPage result (page_at (take usable page.now) at) }
 {
     match LegalPage::new(alloc, page, at, usable) {
         Ok(node) => Ok(node.copied(alloc)?),

@@ -5,11 +5,9 @@ ghost use Rattle.spe_model.specs.Varint.{varint_of};
 ghost use Rattle.spe_format.specs.Spelling.{AreBytes, groups, varint_bytes};
 ghost use Rattle.spe_model.specs.Varint.{varint_length};
 
-/// Reads the varint at the front: its value and its length in bytes, 1 to 9.
-///
-/// `None` exactly where the bytes end inside it. Spellings longer than need be are read too.
+// Reads a varint of any length.
 #[tactic(auto, using(crate::proofs::VarintLemmas::fits_56), unfolding(spe_model::specs::Varint::varint_of))]
-pub fn read_varint(bytes: &[u8]) -> Option<(u64, usize)>
+fn read_long(bytes: &[u8]) -> Option<(u64, usize)>
     ensures value { result ≡ varint_of bytes.now }
     ensures within { IfSome result (λ found. (0 < found.1) × (found.1 ≤ length bytes.now)) }
 {
@@ -25,6 +23,19 @@ pub fn read_varint(bytes: &[u8]) -> Option<(u64, usize)>
         value = value * 128 + (byte - 128);
     }
     None
+}
+
+/// Reads the varint at the front: its value and its length in bytes, 1 to 9.
+///
+/// `None` exactly where the bytes end inside it. Spellings longer than need be are read too.
+pub fn read_varint(bytes: &[u8]) -> Option<(u64, usize)>
+    ensures value { result ≡ varint_of bytes.now }
+    ensures within { IfSome result (λ found. (0 < found.1) × (found.1 ≤ length bytes.now)) }
+{
+    match bytes {
+        [first, ..] if *first < 128 => Some((u64::from(*first), 1)),
+        _ => read_long(bytes),
+    }
 }
 
 /// How many bytes a number takes in its shortest spelling, 1 to 9.

@@ -11,7 +11,7 @@ use Rattle.spe_space.specs.Front.{number_in, recounted}
 use Rattle.spe_frame.specs.Times.{times}
 use Rattle.spe_frame.proofs.TimesLemmas.{holds_from_all}
 use Rattle.spe_freelist.specs.Lists.{Trunk, freed, list_of, taken}
-use Rattle.spe_freelist.specs.Place.{LeavesLists, ListsStay, MayBeGiven, Place, Takes, WhereListed, trunks_of}
+use Rattle.spe_freelist.specs.Place.{LeavesLists, ListsStay, MayBeGiven, Place, TakesPage, WhereListed, trunks_of}
 use Rattle.spe_freelist.specs.Trunk.{fifteen}
 use Rattle.spe_freelist.specs.Steps.{Gave, GivesLeaf, GivesTrunk, LeavesAlone, TakesLeaf, TakesNew, TakesTrunk, Took}
 use Rattle.spe_freelist.proofs.CaseLemmas.{Left, Shown, beside_grown, beside_same, shown, whole_of}
@@ -47,7 +47,7 @@ as_lists g old new pages first place trunks left = record {
 
 as_taken : {P : Type 0} (g : Ghosts P) (old new : P) (pages : Paging) (first page : ℕ) (place : Place g old pages first)
     → IsTaken (g.used old) (number_in (sight g old pages)) (sight g old pages) (sight g new pages) place.before place.own place.after place.listed page
-    → Takes g old new pages first page place
+    → TakesPage g old new pages first page place
 as_taken g old new pages first page place is = record {
   left = as_lists g old new pages first place (taken (number_in (sight g old pages)) (trunks_of g old pages place)) is.left;
   page_is = is.page_is;
@@ -64,7 +64,7 @@ beside_put g old new pages first place others =
     (λ n some other. same_seen g old new pages n (others n other))
 
 pub took_lists : {P : Type 0} (g : Ghosts P) (old new : P) (pages : Paging) (first page : ℕ) → 480 ≤ g.used old → g.stands old pages → (place : Place g old pages first)
-    → Took g old new pages first page → Takes g old new pages first page place
+    → Took g old new pages first page → TakesPage g old new pages first page place
 took_lists g old new pages first page least stands place took =
     ⊎_elim leaf (λ (more : TakesTrunk g old new pages own page ⊎ TakesNew g old new pages own page). ⊎_elim trunk fresh more)
     (subst (λ (f : ℕ). Took g old new pages f page) (sym place.first_is) took)
@@ -78,12 +78,12 @@ took_lists g old new pages first page least stands place took =
     b : Paging
     b = sight g new pages
 
-    leaf : TakesLeaf g old new pages own page → Takes g old new pages first page place
+    leaf : TakesLeaf g old new pages own page → TakesPage g old new pages first page place
     leaf is = as_taken g old new pages first page place (takes_leaf (g.used old) (number_in a) a b place.before place.own place.after place.listed page place.lists
         (beside_put g old new pages first place is.put.others) is.some is.page_is
         (shown (g.used old) _ _ _ is.put.bytes b own is.put.is (put_seen g new pages own is.put.bytes is.put.there)))
 
-    trunk : TakesTrunk g old new pages own page → Takes g old new pages first page place
+    trunk : TakesTrunk g old new pages own page → TakesPage g old new pages first page place
     trunk is = as_taken g old new pages first page place
         (subst (λ (p : ℕ). IsTaken (g.used old) (number_in a) a b place.before place.own place.after place.listed p) (sym is.page_is)
         (takes_trunk (g.used old) (number_in a) a b place.before place.own place.after place.listed place.lists
@@ -91,7 +91,7 @@ took_lists g old new pages first page least stands place took =
         (subst (λ (p : ℕ). Shown b own (next_trunk a p) (leaves_of a p)) is.page_is
         (shown (g.used old) _ _ _ is.put.bytes b own is.put.is (put_seen g new pages own is.put.bytes is.put.there)))))
 
-    fresh : TakesNew g old new pages own page → Takes g old new pages first page place
+    fresh : TakesNew g old new pages own page → TakesPage g old new pages first page place
     fresh is =
         let grown = is.grown in
         let number = number_in a in
@@ -178,7 +178,7 @@ not_given g old new pages first page place may others =
 -- the same of an answer
 pub taken_of : {P : Type 0} (g : Ghosts P) (old new : P) (first : ℕ) (result : Result ℕ TreeFault) → OnOk result (480 ≤ g.used old)
     → IfOk result (λ page. (pages : Paging) → Agrees pages (g.seen new) → Took g old new pages first page)
-    → IfOk result (λ page. WhereListed g old new first (λ pages place. Takes g old new pages first page place))
+    → IfOk result (λ page. WhereListed g old new first (λ pages place. TakesPage g old new pages first page place))
 taken_of g old new first (Ok page) least took = λ pages agrees stands place. took_lists g old new pages first page least stands place (took pages agrees)
 taken_of g old new first (Err fault) least took = tt
 

@@ -52,7 +52,7 @@ pub record LeavesLists {P : Type 0} (g : Ghosts P) (old new : P) (pages : Paging
   pub others : All (λ (f : FreeChain). list_of (sight g new pages) f ≡ list_of (sight g old pages) f) (place.before ++ place.after)
 
 -- a page is taken from the list, and no list has it any more
-pub record Takes {P : Type 0} (g : Ghosts P) (old new : P) (pages : Paging) (first page : ℕ) (place : Place g old pages first) : Type 0 where
+pub record TakesPage {P : Type 0} (g : Ghosts P) (old new : P) (pages : Paging) (first page : ℕ) (place : Place g old pages first) : Type 0 where
   pub left : LeavesLists g old new pages first place (taken (number_in (sight g old pages)) (trunks_of g old pages place))
   pub page_is : page ≡ unwrap_or (next_free (trunks_of g old pages place)) (number_in (sight g old pages) + 1)
   pub gone : Lacks left.listed page

@@ -113,10 +113,7 @@ pub(crate) fn give<S: Pages>(
 {
     let mut buf = vec![in alloc; 0u8; space.page_size() as usize]?;
     let bytes = buf.as_mut_slice();
-    let count = match see_trunk(space, first, bytes) {
-        Ok(count) => count,
-        Err(fault) => return Err(fault),
-    };
+    let count = see_trunk(space, first, bytes)?;
     if count < space.usable() / 4 - 8 {
         return give_leaf(space, first, count, page, bytes);
     }

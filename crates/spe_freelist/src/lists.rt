@@ -9,7 +9,7 @@ ghost use Rattle.spe_space.specs.Free.{DifferAt};
 ghost use Rattle.spe_space.specs.Outcome.{IsFull};
 ghost use Rattle.spe_space.specs.Space.{FrontStays};
 ghost use Rattle.spe_freelist.specs.Lists.{freed};
-ghost use Rattle.spe_freelist.specs.Place.{IsForTaking, IsLikelyOfTree, LeavesLists, ListsStay, MayBeGiven, Takes, WhereListed, trunks_of};
+ghost use Rattle.spe_freelist.specs.Place.{IsForTaking, IsLikelyOfTree, LeavesLists, ListsStay, MayBeGiven, TakesPage, WhereListed, trunks_of};
 ghost use Rattle.spe_freelist.specs.Steps.{Gave, GivesNot, HasNone, IsDamaged, IsTrunkOf, OnFault, OnFullOf, TakesNot, Took};
 ghost use Rattle.spe_freelist.specs.Trunk.{most_leaves};
 
@@ -29,7 +29,7 @@ use std::alloc::Global;
 pub fn alloc<S: Pages>(alloc: Global, space: &mut S, first: u32) -> Result<u32, TreeFault>
     requires { S.Pages.refusal space.old ≡ None }
     ensures taken { IfOk result (λ page. WhereListed S.Pages space.old space.new first (λ pages place.
-        Takes S.Pages space.old space.new pages first page place)) }
+        TakesPage S.Pages space.old space.new pages first page place)) }
     ensures stay { OnErr result (WhereListed S.Pages space.old space.new first (λ pages place.
         ListsStay S.Pages space.old space.new pages first place)) }
     ensures likely { WhereListed S.Pages space.old space.new first (λ pages place.

@@ -96,10 +96,7 @@ fn take_trunk<S: Pages>(
 {
     let usable = space.usable();
     let reserved = reserved_of(alloc, page, usable)?;
-    let count = match see_trunk(space, trunk, page) {
-        Ok(count) => count,
-        Err(fault) => return Err(fault),
-    };
+    let count = see_trunk(space, trunk, page)?;
     let next = u32_of(page, 0);
     put_reserved(page, usable, reserved.as_slice());
     match lay_trunk(space, first, next, count, page) {
@@ -164,10 +161,7 @@ pub(crate) fn take<S: Pages>(alloc: Global, space: &mut S, first: u32) -> Result
 {
     let mut buf = vec![in alloc; 0u8; space.page_size() as usize]?;
     let page = buf.as_mut_slice();
-    let count = match see_trunk(space, first, page) {
-        Ok(count) => count,
-        Err(fault) => return Err(fault),
-    };
+    let count = see_trunk(space, first, page)?;
     if count > 0 {
         return take_leaf(space, first, count, page);
     }

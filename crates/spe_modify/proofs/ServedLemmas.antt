@@ -60,17 +60,17 @@ rows_in None = []
 rows_in (Some found) = found.1
 
 -- the rows of the tree are those of the table
-rows_are : {P : Type 0} (g : Ghosts P) (s : P) (pages : Paging) (root : ℕ) (t : TableOf) → IsOpen g s pages root t → (alone : Alone g s pages t)
+pub rows_are : {P : Type 0} (g : Ghosts P) (s : P) (pages : Paging) (root : ℕ) (t : TableOf) → IsOpen g s pages root t → (alone : Alone g s pages t)
     → AreTableRows t.entry.table (tree_rows (g.used s) (sight g s pages) alone.tree.height alone.tree.root) t.rows
 rows_are g s pages root t is alone =
     let same : alone.rows ≡ t.rows = ap rows_in (sym alone.named ∙ is.found) in
     subst (λ (rows : List Row). AreTableRows t.entry.table (tree_rows (g.used s) (sight g s pages) alone.tree.height alone.tree.root) rows) same alone.has.rows_are
 
-table_tree : (usable : ℕ) (pages : Paging) (tree : Tree) → tree.table ≡ true → IsTreeOf usable pages tree → IsTableTree usable pages tree.height tree.root
+pub table_tree : (usable : ℕ) (pages : Paging) (tree : Tree) → tree.table ≡ true → IsTreeOf usable pages tree → IsTableTree usable pages tree.height tree.root
 table_tree usable pages tree sort is = rw sort at is
 
 -- and they ascend
-ascend : {P : Type 0} (g : Ghosts P) (s : P) (pages : Paging) (t : TableOf) (alone : Alone g s pages t)
+pub ascend : {P : Type 0} (g : Ghosts P) (s : P) (pages : Paging) (t : TableOf) (alone : Alone g s pages t)
     → Ascend 0 (tree_rows (g.used s) (sight g s pages) alone.tree.height alone.tree.root)
 ascend g s pages t alone =
     tree_ascends (g.used s) (sight g s pages) alone.tree.height 0 18446744073709551616 alone.tree.root
@@ -97,7 +97,7 @@ abbrev Sized : (opening : Opening) (size : ℕ) (pages : Paging) (db : Database)
 Sized opening size pages db = (since : ServedSince opening (number_in pages) pages db) × (since.served.header.page_size ≡ size)
 
 -- nothing was put, so the pages are served as before
-served_still : {P : Type 0} (g : Ghosts P) (opening : Opening) (s new : P) (pages : Paging) (db : Database) → Reads g s new → IsReady g new pages
+pub served_still : {P : Type 0} (g : Ghosts P) (opening : Opening) (s new : P) (pages : Paging) (db : Database) → Reads g s new → IsReady g new pages
     → IsServed g opening s pages db → IsServed g opening new pages db
 served_still g opening s new pages db reads ready served =
     let now : Sized opening (g.size s) (sight g new pages) db =

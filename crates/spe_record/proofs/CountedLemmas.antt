@@ -16,7 +16,7 @@ use Rattle.spe_model.specs.Varint.{varint_of}
 use Rattle.spe_model.specs.Serial.{types_at, size_of, total, has_reserved, is_reserved}
 use Rattle.spe_model.specs.Record.{are_texts, is_text, value_of, values_of, record_of, record_of_header, record_of_types}
 use Rattle.spe_record.specs.declared.counted.Seen.{Seen}
-use Rattle.spe_record.specs.Answers.{Fails, NoTexts, TriesLengths, of_texts}
+use Rattle.spe_record.specs.Answers.{FailsRecord, NoTexts, TriesLengths, of_texts}
 use Rattle.spe_record.specs.Counted.{at_most, count_of, judged, seen_behind, seen_of, seen_with}
 use Rattle.spe_record.proofs.TypesLemmas.{found, led_by, types_none, types_one}
 
@@ -222,7 +222,7 @@ lengths_none None body e = refl
 lengths_none (Some types) body e = absurd cc
 
 -- what decides behind them
-pub fails_is : (fault : RecordFault) (reading : Result (List Value) RecordFault) → reading ≡ Err fault → Fails fault reading
+pub fails_is : (fault : RecordFault) (reading : Result (List Value) RecordFault) → reading ≡ Err fault → FailsRecord fault reading
 fails_is HeaderLength reading is = is
 fails_is ReservedType reading is = is
 fails_is Short reading is = is
@@ -233,7 +233,7 @@ fails_is Memory reading is = tt
 pub texts_made : (reading : Result (List Value) RecordFault) (values made : List Value) → reading ≡ of_texts values → made ≡ values → are_texts values ≡ true → reading ≡ Ok made
 texts_made reading values made is same all = rw (is, all, same) refl
 
-pub texts_fail : (fault : RecordFault) (reading : Result (List Value) RecordFault) (values : List Value) → reading ≡ of_texts values → NoTexts fault (are_texts values) → Fails fault reading
+pub texts_fail : (fault : RecordFault) (reading : Result (List Value) RecordFault) (values : List Value) → reading ≡ of_texts values → NoTexts fault (are_texts values) → FailsRecord fault reading
 texts_fail NotUtf8 reading values is none = rw (is, none) refl
 texts_fail Memory reading values is none = tt
 texts_fail HeaderLength reading values is none = absurd none

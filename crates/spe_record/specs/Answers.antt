@@ -7,14 +7,14 @@ use Rattle.spe_model.specs.declared.record.RecordFault.TheVariants.{NotUtf8, Mem
 use Rattle.spe_model.specs.Record.{is_text, are_texts, record_of_types, values_of}
 use Rattle.spe_model.specs.Serial.{total}
 
-abbrev pub Fails : {X : Type 0} → RecordFault → Result X RecordFault → Type 0
-Fails Memory reading = Unit {0}
-Fails fault reading = reading ≡ Err fault
+abbrev pub FailsRecord : {X : Type 0} → RecordFault → Result X RecordFault → Type 0
+FailsRecord Memory reading = Unit {0}
+FailsRecord fault reading = reading ≡ Err fault
 
 -- the answer is what reading gives, or Memory
-abbrev pub Gives : {X : Type 0} → Result X RecordFault → Result X RecordFault → Type 0
-Gives (Ok x) reading = reading ≡ Ok x
-Gives (Err fault) reading = Fails fault reading
+abbrev pub GivesRecord : {X : Type 0} → Result X RecordFault → Result X RecordFault → Type 0
+GivesRecord (Ok x) reading = reading ≡ Ok x
+GivesRecord (Err fault) reading = FailsRecord fault reading
 
 -- serial types whose values take so many bytes
 abbrev pub Fills : Option (List ℕ) → ℕ → Type 0

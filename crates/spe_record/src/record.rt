@@ -3,7 +3,7 @@
 ghost use Rattle.std.specs.Prelude.{◌<◌, length};
 ghost use Rattle.spe_model.specs.Record.{record_of, record_of_types};
 ghost use Rattle.spe_model.specs.Serial.{types_at};
-ghost use Rattle.spe_record.specs.Answers.{Gives, TriesLengths};
+ghost use Rattle.spe_record.specs.Answers.{GivesRecord, TriesLengths};
 
 use crate::counted::{judged, seen_of};
 use crate::values::values_from;
@@ -29,7 +29,7 @@ fn try_lengths(types: &[u8], body: &[u8]) -> Result<(), RecordFault>
 // The values of the serial types that fill some bytes, which are to fill a body.
 fn values_of_types(alloc: Global, types: &[u8], body: &[u8]) -> Result<Values, RecordFault>
     requires { length body.now < 18446744073709551615 }
-    ensures { Gives result (record_of_types (types_at types.now) body.now) }
+    ensures { GivesRecord result (record_of_types (types_at types.now) body.now) }
 {
     match try_lengths(types, body) {
         Ok(()) => (),
@@ -48,7 +48,7 @@ fn values_of_types(alloc: Global, types: &[u8], body: &[u8]) -> Result<Values, R
 /// is refused: this is the project's own rule.
 #[tactic(auto, unfolding(spe_model::specs::Record::record_of))]
 pub fn decode(alloc: Global, bytes: &[u8]) -> Result<Values, RecordFault>
-    ensures { Gives result (record_of bytes.now) }
+    ensures { GivesRecord result (record_of bytes.now) }
 {
     let Some((header, first)) = read_varint(bytes) else {
         return Err(RecordFault::HeaderLength);

@@ -13,8 +13,7 @@ use Rattle.spe_recover.specs.declared.heads.JournalHead.{JournalHead}
 use Rattle.spe_recover.specs.Heads.{HaveLengths}
 use Rattle.spe_recover.specs.Rule.{Does}
 use Rattle.spe_recover.specs.Restored.{StaysFrom}
-use Rattle.spe_recover.specs.Cuts.{AddsCut, MakesCut}
-use Rattle.spe_recover.specs.Told.{IfTold}
+use Rattle.spe_disk.specs.Added.{AddsCut, IfTold, MakesCut}
 use Rattle.spe_recover.proofs.CutLemmas.{HasLeft, left_first, left_next, left_broken}
 use Rattle.spe_recover.proofs.RestoreLemmas.{Adds-nothing, Adds-append, file_stays, present_after}
 

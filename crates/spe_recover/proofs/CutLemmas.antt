@@ -4,7 +4,7 @@ use Rattle.spe_model.specs.declared.file.FileNo.{FileNo}
 use Rattle.spe_model.specs.Trace.{Operation, History, IsCut, IsTorn}
 use Rattle.spe_model.specs.Trace.Operation.{Write, Cut}
 use Rattle.spe_disk.specs.Told.{Adds}
-use Rattle.spe_recover.specs.Cuts.{AddsCut, MakesCut}
+use Rattle.spe_disk.specs.Added.{AddsCut, MakesCut}
 use Rattle.spe_recover.proofs.RestoreLemmas.{Adds-nothing, Adds-append}
 
 -- nothing is left of any operations

@@ -20,7 +20,7 @@ use Rattle.spe_recover.specs.declared.heads.OtherSize as others
 use Rattle.spe_model.specs.Rollback.{any_length}
 use Rattle.spe_recover.specs.Heads.{names_other, other_from, IsOther, IsHead, AreHeads, HaveLengths}
 use Rattle.spe_recover.specs.Restored.{Stays}
-use Rattle.spe_recover.specs.Told.{IfTold}
+use Rattle.spe_disk.specs.Added.{IfTold}
 use Rattle.spe_recover.proofs.RestoreLemmas.{get_set}
 
 -- the bytes that were there, without the zeros behind them

@@ -18,7 +18,7 @@ use Rattle.spe_recover.specs.Heads.{AreHeads, IsOther, other_from}
 use Rattle.spe_recover.specs.Seen.{IsScanned}
 use Rattle.spe_recover.specs.Survey.{IsOfFiles, Surveys, IsSurvey, hot_outcome, sized_outcome}
 use Rattle.spe_recover.specs.Known.{Tells, IsFront, IsKnown, IsRefused}
-use Rattle.spe_recover.specs.Told.{IfTold}
+use Rattle.spe_disk.specs.Added.{IfTold}
 
 abbrev Outcome : Type 0
 Outcome = Result (List (List ℕ)) RecoverFault

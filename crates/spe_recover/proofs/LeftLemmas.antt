@@ -6,9 +6,9 @@ use Rattle.spe_model.specs.Recovery.{journal_of}
 use Rattle.spe_model.specs.Rollback.{restores}
 use Rattle.spe_model.specs.Trace.{History, present}
 use Rattle.spe_journal.specs.Saved.{saved_in, SavesFirst}
-use Rattle.spe_recover.specs.Cuts.{AddsCut, BreaksFirst, MakesCut}
+use Rattle.spe_recover.specs.Cuts.{BreaksFirst}
 use Rattle.spe_recover.specs.Restored.{Holders, Restored, RestoresFirst, Stays, due_after, is_due}
-use Rattle.spe_recover.specs.Told.{IfTold}
+use Rattle.spe_disk.specs.Added.{AddsCut, IfTold, MakesCut}
 use Rattle.spe_recover.proofs.CutLemmas.{HasLeft, left_first, left_next, left_stopped, left_broken}
 use Rattle.spe_recover.proofs.RestoreLemmas.{restores-append, restores-parts, told_before}
 use Rattle.spe_recover.proofs.ScanLemmas.{IsPiece, piece_joined}

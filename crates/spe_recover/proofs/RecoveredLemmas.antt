@@ -24,10 +24,9 @@ use Rattle.spe_recover.specs.Heads.{AreHeads}
 use Rattle.spe_recover.specs.Restored.{Holders}
 use Rattle.spe_recover.specs.Known.{IsKnown, IsRefused, of_failure}
 use Rattle.spe_recover.specs.Survey.{images_to}
-use Rattle.spe_recover.specs.Told.{IfTold}
 use Rattle.spe_model.specs.Rollback.{rule_of}
-use Rattle.spe_recover.specs.Cuts.{AddsCut, MakesCut}
-use Rattle.spe_recover.specs.Written.{IsReady, Makes}
+use Rattle.spe_disk.specs.Added.{AddsCut, IfTold, MakesCut}
+use Rattle.spe_recover.specs.Written.{IsReady, MakesCounted}
 use Rattle.spe_recover.specs.Recovered.{AreHotBits, HasPages, IsPlain, IsRefusal, IsUnwanted, is_wanted, rollback_of, rollback_to}
 use Rattle.spe_recover.proofs.CutLemmas.{IsCut-whole}
 use Rattle.spe_model.specs.Recovery.{recovered_header}
@@ -128,7 +127,7 @@ rolling_stopped None new known k cut = tt
 rolling_stopped (Some h) new known k cut = subst (AddsCut (Some h) new) (rollback_is (present h) known k) cut
 
 pub rolling_done : (told new : Option History) (known : Known) (made : ℕ) → IfTold told (λ content. IsKnown content known (recovered content))
-    → Makes told new (λ content. rule_of content known.survey.pages) made → MakesCut told new rollback_of
+    → MakesCounted told new (λ content. rule_of content known.survey.pages) made → MakesCut told new rollback_of
 rolling_done None new known made k makes = tt
 rolling_done (Some h) new known made k makes =
     let ops = rule_of (present h) known.survey.pages in

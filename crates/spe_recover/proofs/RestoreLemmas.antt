@@ -14,7 +14,7 @@ use Rattle.spe_model.specs.Trace.Operation.{Write, Cut}
 use Rattle.spe_disk.specs.Told.{Adds}
 use Rattle.spe_model.specs.Rollback.{write_of, without, firsts, restores}
 use Rattle.spe_recover.specs.Restored.{Holders, is_due, due_after, Restored, Stays}
-use Rattle.spe_recover.specs.Told.{IfTold}
+use Rattle.spe_disk.specs.Added.{IfTold}
 
 -- operations one after the other
 pub after-append : (content : Content) (xs ys : List Operation) → after content (xs ++ ys) ≡ after (after content xs) ys

@@ -8,7 +8,7 @@ use Rattle.spe_model.specs.Recovery.{journal_of}
 use Rattle.spe_model.specs.Trace.{History, present}
 use Rattle.spe_journal.specs.Saved.{saved_in}
 use Rattle.spe_recover.specs.Seen.{Entry, Notes, NotesPiece, IsSeen, IsScanned, entries_of, entries_from, rest_after}
-use Rattle.spe_recover.specs.Told.{IfTold}
+use Rattle.spe_disk.specs.Added.{IfTold}
 use Rattle.spe_recover.specs.declared.seen.Seen.{Seen}
 use Rattle.spe_recover.proofs.SeenLemmas.{Notes-nothing, Notes-append}
 

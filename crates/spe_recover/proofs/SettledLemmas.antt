@@ -12,10 +12,9 @@ use Rattle.spe_model.specs.Header.{node_of}
 use Rattle.spe_model.specs.Trace.{History, IsCut, present}
 use Rattle.spe_crash.specs.Pages.{QuietIsWhole, RecoveredAreHeaded}
 use Rattle.spe_crash.specs.Rollback.{RollbackKeeps, RollbackIsCovered, RollbackEmpties, RollbackRestores}
-use Rattle.spe_recover.specs.Cuts.{MakesCut}
 use Rattle.spe_recover.specs.Recovered.{AreInFile, HasNoJournals, HasPages, rollback_of}
-use Rattle.spe_recover.specs.Told.{IfBothTold, IfTold}
-use Rattle.spe_recover.specs.Written.{Makes}
+use Rattle.spe_disk.specs.Added.{IfBothTold, IfTold, MakesCut}
+use Rattle.spe_recover.specs.Written.{MakesCounted}
 use Rattle.spe_recover.proofs.CutLemmas.{IsCut-trans}
 use Rattle.spe_recover.proofs.StopLemmas.{covered_by, keeps_by, left_empty, left_kept, left_restored}
 
@@ -74,7 +73,7 @@ pub left_settled : (old new : Option History) (result : Result Recovered Recover
     → IfOk result (λ found. IfTold old (λ content. found.page_size ≡ file_page_size content))
     → IfOk result (λ found. IfTold old (λ content. found.reserved ≡ (recovered_header content).reserved))
     → IfOk result (λ found. IfTold old (λ content. found.node ≡ node_of (recovered_header content)))
-    → IfOk result (λ found. Makes old new (λ content. rule_of content found.pages) found.ops)
+    → IfOk result (λ found. MakesCounted old new (λ content. rule_of content found.pages) found.ops)
     → MakesCut old new rollback_of
     → IfOk result (λ found. IfBothTold old new (λ content now. (pages : List (List ℕ)) → recovered content ≡ Ok pages → IsFound found now pages))
 left_settled old new (Err fault) keeps empties restores headed whole has sized reserved node made cut = tt

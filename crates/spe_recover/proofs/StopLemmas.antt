@@ -7,10 +7,10 @@ use Rattle.spe_model.specs.Recovery.{file_page, pages_to, recovered}
 use Rattle.spe_model.specs.Rollback.{rule_of}
 use Rattle.spe_model.specs.Trace.{Operation, History, IsCut, after, present}
 use Rattle.spe_crash.specs.Rollback.{RollbackKeeps, RollbackIsCovered, RollbackEmpties, RollbackRestores}
-use Rattle.spe_recover.specs.Cuts.{KeepsAtStops, MakesCut, WhereAdded}
+use Rattle.spe_recover.specs.Cuts.{KeepsAtStops}
 use Rattle.spe_recover.specs.Recovered.{AreInFile, HasNoJournals, HasPages, rollback_of, rollback_to}
-use Rattle.spe_recover.specs.Told.{IfBothTold, IfTold}
-use Rattle.spe_recover.specs.Written.{Makes}
+use Rattle.spe_disk.specs.Added.{IfBothTold, IfTold, MakesCut, WhereAdded}
+use Rattle.spe_recover.specs.Written.{MakesCounted}
 use Rattle.spe_recover.proofs.CutLemmas.{IsCut-trans}
 use Rattle.spe_recover.proofs.RestoreLemmas.{Adds-nothing, present_after}
 
@@ -41,7 +41,7 @@ left_kept (Some h) (Some k) law c =
 
 -- what holds once all was made
 pub left_restored : (old new : Option History) (pages count made : ℕ) → count ≡ pages → RollbackRestores → IfTold old (λ content. HasPages content pages)
-    → Makes old new (λ content. rule_of content pages) made → IfBothTold old new (AreInFile count)
+    → MakesCounted old new (λ content. rule_of content pages) made → IfBothTold old new (AreInFile count)
 left_restored None new pages count made same law found makes = tt
 left_restored (Some h) None pages count made same law found makes = tt
 left_restored (Some h) (Some k) pages count made same law found makes =
@@ -53,7 +53,7 @@ left_restored (Some h) (Some k) pages count made same law found makes =
     (sym (subst (λ (n : ℕ). map (file_page (after content (rule_of content n))) (pages_to n) ≡ found.pages) found.counted (law content found.pages found.recovers))))
 
 pub left_empty : (old new : Option History) (pages made : ℕ) → RollbackEmpties → IfTold old (λ content. HasPages content pages)
-    → Makes old new (λ content. rule_of content pages) made → IfTold old (λ content. IfTold new HasNoJournals)
+    → MakesCounted old new (λ content. rule_of content pages) made → IfTold old (λ content. IfTold new HasNoJournals)
 left_empty None new pages made law found makes = tt
 left_empty (Some h) None pages made law found makes = tt
 left_empty (Some h) (Some k) pages made law found makes =

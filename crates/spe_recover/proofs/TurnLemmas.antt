@@ -7,7 +7,7 @@ use Rattle.spe_model.specs.Recovery.{journal_of}
 use Rattle.spe_model.specs.Trace.{History, present}
 use Rattle.spe_journal.specs.Saved.{saved_in}
 use Rattle.spe_recover.specs.Restored.{Holders, Restored, RestoresFirst, RestoresNone, Stays}
-use Rattle.spe_recover.specs.Told.{IfTold}
+use Rattle.spe_disk.specs.Added.{IfTold}
 use Rattle.spe_recover.proofs.ScanLemmas.{IsPiece, piece_joined, saved_in-short}
 use Rattle.spe_recover.proofs.RestoreLemmas.{Restored-nothing, Restored-append, told_before}
 

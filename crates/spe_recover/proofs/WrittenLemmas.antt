@@ -14,10 +14,9 @@ use Rattle.spe_disk.specs.Told.{Adds}
 use Rattle.spe_recover.specs.declared.survey.Survey.{Survey}
 use Rattle.spe_recover.specs.Restored.{Holders, Restored, Stays, is_due}
 use Rattle.spe_model.specs.Rollback.{any_length, cuts_from, file_cut, firsts, restores, rule_of, without, write_of}
-use Rattle.spe_recover.specs.Cuts.{AddsCut, MakesCut}
 use Rattle.spe_recover.specs.Rule.{Does}
-use Rattle.spe_recover.specs.Told.{IfTold}
-use Rattle.spe_recover.specs.Written.{IsReady, Makes, all_of}
+use Rattle.spe_disk.specs.Added.{AddsCut, IfTold, MakesCut}
+use Rattle.spe_recover.specs.Written.{IsReady, MakesCounted, all_of}
 use Rattle.spe_recover.proofs.ClearLemmas.{cuts_from-next, cuts_from-none, cut_same}
 use Rattle.spe_recover.proofs.CutLemmas.{HasLeft, left_first, left_next, left_broken}
 use Rattle.spe_recover.proofs.HeldLemmas.{find_any}
@@ -76,7 +75,7 @@ pub all_made : (told first second new : Option History) (survey : Survey) (befor
     → IfTold told (λ content. Restored survey.page_size survey.pages (hot_from content survey.page_size 0 16) told first before after restored)
     → Stays told first → Does first second (λ content. file_cut survey.size end) cut → end ≡ survey.pages * survey.page_size → Stays first second
     → Does second new (λ content. cuts_from content 0 16) cleared
-    → Makes told new (λ content. all_of content survey.pages) (restored + cut + cleared)
+    → MakesCounted told new (λ content. all_of content survey.pages) (restored + cut + cleared)
 all_made None first second new survey before after restored cut cleared end ready done stays cutting ends still clearing = tt
 all_made (Some h) None second new survey before after restored cut cleared end ready done stays cutting ends still clearing = absurd stays
 all_made (Some h) (Some k) None new survey before after restored cut cleared end ready done stays cutting ends still clearing = absurd still
@@ -170,13 +169,13 @@ clearing_stopped (Some h) (Some k) (Some l) new survey before after restored cut
     (subst (AddsCut (Some l) new) cuts broken)
     (left_next (Some h) (Some k) (Some l) _ _ (trim_of content survey.pages) (cuts_from content 0 16) refl file (after_restoring h (Some k) survey before after restored ready done))
 
-pub none_made : (told : Option History) (pages : ℕ) → IfTold told (λ content. false ≡ any_length content 0 16) → Makes told told (λ content. rule_of content pages) 0
+pub none_made : (told : Option History) (pages : ℕ) → IfTold told (λ content. false ≡ any_length content 0 16) → MakesCounted told told (λ content. rule_of content pages) 0
 unfolding rule_of
 none_made None pages nothing = tt
 none_made (Some h) pages nothing = rw (← nothing) (record { adds = Adds-nothing (Some h); count = refl })
 
 pub some_made : (told new : Option History) (pages made : ℕ) → IfTold told (λ content. true ≡ any_length content 0 16)
-    → Makes told new (λ content. all_of content pages) made → Makes told new (λ content. rule_of content pages) made
+    → MakesCounted told new (λ content. all_of content pages) made → MakesCounted told new (λ content. rule_of content pages) made
 unfolding rule_of
 some_made None new pages made some all = tt
 some_made (Some h) new pages made some all = rw (← some) all

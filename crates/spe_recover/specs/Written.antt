@@ -11,7 +11,7 @@ use Rattle.spe_disk.specs.Told.{Adds}
 use Rattle.spe_recover.specs.declared.survey.Survey.{Survey}
 use Rattle.spe_recover.specs.Restored.{Holders}
 use Rattle.spe_model.specs.Rollback.{restores, file_cut, cuts_from}
-use Rattle.spe_recover.specs.Told.{IfTold}
+use Rattle.spe_disk.specs.Added.{IfTold}
 
 -- what writing back rests on
 pub record IsReady (survey : Survey) (holders : Holders) (content : Content) : Type 0 where
@@ -30,5 +30,5 @@ pub record IsMade (old new : Option History) (ops : List Operation) (made : ℕ)
   pub adds : Adds old new ops
   pub count : made ≡ length ops
 
-abbrev pub Makes : Option History → Option History → (Content → List Operation) → ℕ → Type 0
-Makes old new ops made = IfTold old (λ content. IsMade old new (ops content) made)
+abbrev pub MakesCounted : Option History → Option History → (Content → List Operation) → ℕ → Type 0
+MakesCounted old new ops made = IfTold old (λ content. IsMade old new (ops content) made)

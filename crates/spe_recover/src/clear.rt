@@ -5,11 +5,10 @@ ghost use Rattle.spe_model.specs.Content.{Content};
 ghost use Rattle.spe_model.specs.Faults.{HasCause};
 ghost use Rattle.spe_model.specs.Recovery.{journal_of};
 ghost use Rattle.spe_model.specs.Rollback.{any_length, cuts_from, file_cut};
-ghost use Rattle.spe_recover.specs.Cuts.{MakesCut};
 ghost use Rattle.spe_recover.specs.Rule.{Does};
 ghost use Rattle.spe_recover.specs.Restored.{Stays, StaysFrom};
 ghost use Rattle.spe_recover.specs.Heads.{HaveLengths};
-ghost use Rattle.spe_recover.specs.Told.{IfTold};
+ghost use Rattle.spe_disk.specs.Added.{IfTold, MakesCut};
 
 use crate::heads::{JournalHead, head_at};
 use spe_disk::{Disk, Failed, FileNo};

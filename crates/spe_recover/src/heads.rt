@@ -6,7 +6,7 @@ ghost use Rattle.spe_model.specs.Journal.{hot_records};
 ghost use Rattle.spe_model.specs.Recovery.{journal_of};
 ghost use Rattle.spe_journal.specs.Kind.{kind_of, saved_under};
 ghost use Rattle.spe_recover.specs.Heads.{IsHead, AreHeads, IsOther};
-ghost use Rattle.spe_recover.specs.Told.{FindsTold, HasCause};
+ghost use Rattle.spe_recover.specs.Told.{FindsTold, HasDiskCause};
 
 use crate::failure::Failure;
 use spe_disk::{Disk, FileNo};
@@ -50,7 +50,7 @@ fn read_kind<D: Disk>(disk: &mut D, id: u8, page_size: u32) -> Result<JournalKin
     ensures same { D.told disk.new ≡ D.told disk.old }
     ensures attached { D.attached disk.new ≡ true }
     ensures operations { D.op_faults disk.new ≡ D.op_faults disk.old }
-    ensures cause { HasCause (D.read_faults disk.old) (D.read_faults disk.new) result }
+    ensures cause { HasDiskCause (D.read_faults disk.old) (D.read_faults disk.new) result }
 {
     let mut head = [0u8; HEAD_BYTES];
     let n = disk.read_at(FileNo::Journal(id), 0, &mut head)?;
@@ -65,7 +65,7 @@ fn journal_length<D: Disk>(disk: &mut D, id: u8) -> Result<u64, Failure>
     ensures same { D.told disk.new ≡ D.told disk.old }
     ensures attached { D.attached disk.new ≡ true }
     ensures operations { D.op_faults disk.new ≡ D.op_faults disk.old }
-    ensures cause { HasCause (D.read_faults disk.old) (D.read_faults disk.new) result }
+    ensures cause { HasDiskCause (D.read_faults disk.old) (D.read_faults disk.new) result }
 {
     Ok(disk.length(FileNo::Journal(id))?.unwrap_or(0))
 }
@@ -78,7 +78,7 @@ fn read_head<D: Disk>(disk: &mut D, id: u8, page_size: u32) -> Result<JournalHea
     ensures same { D.told disk.new ≡ D.told disk.old }
     ensures attached { D.attached disk.new ≡ true }
     ensures operations { D.op_faults disk.new ≡ D.op_faults disk.old }
-    ensures cause { HasCause (D.read_faults disk.old) (D.read_faults disk.new) result }
+    ensures cause { HasDiskCause (D.read_faults disk.old) (D.read_faults disk.new) result }
 {
     let length = journal_length(disk, id)?;
     let kind = read_kind(disk, id, page_size)?;
@@ -100,7 +100,7 @@ pub fn read_heads<D: Disk>(disk: &mut D, page_size: u32) -> Result<[JournalHead;
     ensures same { D.told disk.new ≡ D.told disk.old }
     ensures attached { D.attached disk.new ≡ true }
     ensures operations { D.op_faults disk.new ≡ D.op_faults disk.old }
-    ensures cause { HasCause (D.read_faults disk.old) (D.read_faults disk.new) result }
+    ensures cause { HasDiskCause (D.read_faults disk.old) (D.read_faults disk.new) result }
 {
     let mut heads = [JournalHead {
         kind: JournalKind::Cold,

@@ -7,7 +7,8 @@ ghost use Rattle.spe_model.specs.Header.{is_page_size, page_size_at};
 ghost use Rattle.spe_model.specs.Recovery.{recovered};
 ghost use Rattle.spe_recover.specs.Known.{IsFront, Tells, HasFault};
 ghost use Rattle.spe_recover.specs.Survey.{IsLimited, sized_outcome};
-ghost use Rattle.spe_recover.specs.Told.{IfTold, FindsTold, HasCause};
+ghost use Rattle.spe_disk.specs.Added.{IfTold};
+ghost use Rattle.spe_recover.specs.Told.{FindsTold, HasDiskCause};
 
 use crate::failure::Failure;
 use crate::heads::{JournalHead, find_other, read_heads};
@@ -34,7 +35,7 @@ fn read_front<D: Disk>(disk: &mut D, front: &mut [u8; 100]) -> Result<usize, Fai
     ensures same { D.told disk.new ≡ D.told disk.old }
     ensures attached { D.attached disk.new ≡ true }
     ensures operations { D.op_faults disk.new ≡ D.op_faults disk.old }
-    ensures cause { HasCause (D.read_faults disk.old) (D.read_faults disk.new) result }
+    ensures cause { HasDiskCause (D.read_faults disk.old) (D.read_faults disk.new) result }
 {
     Ok(disk.read_at(FileNo::Database, 0, front)?)
 }
@@ -46,7 +47,7 @@ fn file_length<D: Disk>(disk: &mut D) -> Result<u64, Failure>
     ensures same { D.told disk.new ≡ D.told disk.old }
     ensures attached { D.attached disk.new ≡ true }
     ensures operations { D.op_faults disk.new ≡ D.op_faults disk.old }
-    ensures cause { HasCause (D.read_faults disk.old) (D.read_faults disk.new) result }
+    ensures cause { HasDiskCause (D.read_faults disk.old) (D.read_faults disk.new) result }
 {
     Ok(disk.length(FileNo::Database)?.unwrap_or(0))
 }

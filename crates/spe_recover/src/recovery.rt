@@ -5,13 +5,12 @@ ghost use Rattle.spe_model.specs.Header.{is_page_size, node_of};
 ghost use Rattle.spe_model.specs.Recovery.{file_page_size, recovered, recovered_header};
 ghost use Rattle.spe_model.specs.Rollback.{rule_of};
 ghost use Rattle.spe_model.specs.Settled.{IsFound, IsWithinLimits, LeavesPages};
-ghost use Rattle.spe_recover.specs.Cuts.{MakesCut};
 ghost use Rattle.spe_recover.specs.declared.failure.Failure.TheVariants.{Memory};
 ghost use Rattle.spe_recover.specs.Heads.{AreHeads};
 ghost use Rattle.spe_recover.specs.Restored.{HasEitherFailure};
 ghost use Rattle.spe_recover.specs.Survey.{IsLimited};
-ghost use Rattle.spe_recover.specs.Told.{IfTold, IfBothTold};
-ghost use Rattle.spe_recover.specs.Written.{IsReady, Makes};
+ghost use Rattle.spe_disk.specs.Added.{IfBothTold, IfTold, MakesCut};
+ghost use Rattle.spe_recover.specs.Written.{IsReady, MakesCounted};
 ghost use Rattle.spe_recover.specs.Recovered.{HasPages, AreHotBits, HasCauses, IsPlain, IsRefusal, is_prepared, is_wanted, rollback_of};
 
 use crate::failure::Failure;
@@ -83,7 +82,7 @@ fn roll_back<D: Disk>(
     ensures pages { IfOk result (λ found. found.pages ≡ survey.now.pages) }
     ensures node { IfOk result (λ found. found.node ≡ node_of survey.now.header) }
     ensures rolled { IfOk result (λ found. IfTold (D.told disk.old) (λ content. AreHotBits content found.rolled)) }
-    ensures made { IfOk result (λ found. Makes (D.told disk.old) (D.told disk.new) (λ content. rule_of content survey.now.pages) found.ops) }
+    ensures made { IfOk result (λ found. MakesCounted (D.told disk.old) (D.told disk.new) (λ content. rule_of content survey.now.pages) found.ops) }
     ensures stopped { OnErr result (MakesCut (D.told disk.old) (D.told disk.new) (λ content. rule_of content survey.now.pages)) }
     ensures untouched { IfErr result (λ failure. failure ≡ Memory → D.told disk.new ≡ D.told disk.old) }
     ensures attached { D.attached disk.new ≡ true }
@@ -108,7 +107,7 @@ fn recover_files<D: Disk>(
     ensures wanted { IfOk result (λ found. IfTold (D.told disk.old) (λ content. is_wanted want (recovered_header content) ≡ true)) }
     ensures limits { IfOk result IsWithinLimits }
     ensures rolled { IfOk result (λ found. IfTold (D.told disk.old) (λ content. AreHotBits content found.rolled)) }
-    ensures made { IfOk result (λ found. Makes (D.told disk.old) (D.told disk.new) (λ content. rule_of content found.pages) found.ops) }
+    ensures made { IfOk result (λ found. MakesCounted (D.told disk.old) (D.told disk.new) (λ content. rule_of content found.pages) found.ops) }
     ensures cut { MakesCut (D.told disk.old) (D.told disk.new) rollback_of }
     ensures refusal { IfErr result (λ fault. IfTold (D.told disk.old) (IsRefusal want fault)) }
     ensures untouched { IfErr result (λ fault. IsPlain fault → D.told disk.new ≡ D.told disk.old) }
@@ -162,7 +161,7 @@ pub fn recover<D: Disk>(alloc: Global, disk: &mut D, want: Want) -> Result<Recov
 
     // What was done, and the files then.
     ensures rolled { IfOk result (λ found. IfTold (D.told disk.old) (λ content. AreHotBits content found.rolled)) }
-    ensures made { IfOk result (λ found. Makes (D.told disk.old) (D.told disk.new) (λ content. rule_of content found.pages) found.ops) }
+    ensures made { IfOk result (λ found. MakesCounted (D.told disk.old) (D.told disk.new) (λ content. rule_of content found.pages) found.ops) }
     ensures settled { IfOk result (λ found. IfBothTold (D.told disk.old) (D.told disk.new) (λ content now. (pages : List (List ℕ)) → recovered content ≡ Ok pages → IsFound found now pages)) }
 
     // What it leaves, whatever it answers and wherever a stop cuts it.

@@ -8,10 +8,10 @@ ghost use Rattle.spe_model.specs.Recovery.{journal_of};
 ghost use Rattle.spe_disk.specs.Told.{Adds};
 ghost use Rattle.spe_journal.specs.Saved.{saved_in};
 ghost use Rattle.spe_model.specs.Rollback.{restores, write_of, without};
-ghost use Rattle.spe_recover.specs.Cuts.{BreaksFirst, MakesCut};
+ghost use Rattle.spe_recover.specs.Cuts.{BreaksFirst};
 ghost use Rattle.spe_recover.specs.Restored.{is_due, Restored, RestoresPiece, Stays, HasEither};
 ghost use Rattle.spe_recover.specs.Heads.{IsHead, AreHeads};
-ghost use Rattle.spe_recover.specs.Told.{IfTold};
+ghost use Rattle.spe_disk.specs.Added.{IfTold, MakesCut};
 
 use crate::heads::{JournalHead, head_at};
 use crate::piece::read_piece;

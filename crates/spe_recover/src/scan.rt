@@ -6,7 +6,8 @@ ghost use Rattle.spe_model.specs.Recovery.{journal_of};
 ghost use Rattle.spe_journal.specs.Saved.{saved_in};
 ghost use Rattle.spe_recover.specs.Seen.{Notes, NotesPiece, IsScanned, entries_of, entries_from};
 ghost use Rattle.spe_recover.specs.Heads.{IsHead, AreHeads};
-ghost use Rattle.spe_recover.specs.Told.{IfTold, FindsTold, HasCause};
+ghost use Rattle.spe_disk.specs.Added.{IfTold};
+ghost use Rattle.spe_recover.specs.Told.{FindsTold, HasDiskCause};
 
 use crate::failure::Failure;
 use crate::heads::{JournalHead, head_at};
@@ -58,7 +59,7 @@ fn scan_records<D: Disk>(
     ensures same { D.told disk.new ≡ D.told disk.old }
     ensures attached { D.attached disk.new ≡ true }
     ensures operations { D.op_faults disk.new ≡ D.op_faults disk.old }
-    ensures cause { HasCause (D.read_faults disk.old) (D.read_faults disk.new) result }
+    ensures cause { HasDiskCause (D.read_faults disk.old) (D.read_faults disk.new) result }
 {
     let size = u64::from(page_size) + 8;
     let mut at = HEAD_BYTES as u64;
@@ -93,7 +94,7 @@ fn scan_journal<D: Disk>(
     ensures same { D.told disk.new ≡ D.told disk.old }
     ensures attached { D.attached disk.new ≡ true }
     ensures operations { D.op_faults disk.new ≡ D.op_faults disk.old }
-    ensures cause { HasCause (D.read_faults disk.old) (D.read_faults disk.new) result }
+    ensures cause { HasDiskCause (D.read_faults disk.old) (D.read_faults disk.new) result }
 {
     match head.kind {
         JournalKind::Hot { nonce } => {
@@ -121,7 +122,7 @@ fn scan_all<D: Disk>(
     ensures same { D.told disk.new ≡ D.told disk.old }
     ensures attached { D.attached disk.new ≡ true }
     ensures operations { D.op_faults disk.new ≡ D.op_faults disk.old }
-    ensures cause { HasCause (D.read_faults disk.old) (D.read_faults disk.new) result }
+    ensures cause { HasDiskCause (D.read_faults disk.old) (D.read_faults disk.new) result }
 {
     let mut id: u8 = 0;
     while id < 16 {
@@ -147,7 +148,7 @@ pub fn scan<D: Disk>(
     ensures same { D.told disk.new ≡ D.told disk.old }
     ensures attached { D.attached disk.new ≡ true }
     ensures operations { D.op_faults disk.new ≡ D.op_faults disk.old }
-    ensures cause { HasCause (D.read_faults disk.old) (D.read_faults disk.new) result }
+    ensures cause { HasDiskCause (D.read_faults disk.old) (D.read_faults disk.new) result }
 {
     let mut buf = vec![in alloc; 0u8; page_size as usize + 8]?;
     let mut seen = nothing_seen(alloc);

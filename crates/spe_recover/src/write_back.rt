@@ -2,12 +2,11 @@
 
 ghost use Rattle.std.specs.Prelude.{◌≡◌, ◌≤◌, ◌+◌, true, length, IfOk, IfErr, OnErr};
 ghost use Rattle.spe_model.specs.Rollback.{rule_of};
-ghost use Rattle.spe_recover.specs.Cuts.{MakesCut};
 ghost use Rattle.spe_recover.specs.Restored.{HasEither, HasEitherFailure};
 ghost use Rattle.spe_recover.specs.declared.failure.Failure.TheVariants.{Memory};
 ghost use Rattle.spe_recover.specs.Heads.{AreHeads};
-ghost use Rattle.spe_recover.specs.Told.{IfTold};
-ghost use Rattle.spe_recover.specs.Written.{IsReady, Makes, all_of};
+ghost use Rattle.spe_disk.specs.Added.{IfTold, MakesCut};
+ghost use Rattle.spe_recover.specs.Written.{IsReady, MakesCounted, all_of};
 
 use crate::clear::{any_length, cut_file, cut_journals};
 use crate::failure::Failure;
@@ -32,7 +31,7 @@ fn write_files<D: Disk>(
     requires page { length buf.old ≡ survey.now.page_size + 8 }
     requires heads { IfTold (D.told disk.old) (λ content. AreHeads content survey.now.page_size heads.now) }
     requires ready { IfTold (D.told disk.old) (IsReady survey.now holders.old) }
-    ensures made { IfOk result (Makes (D.told disk.old) (D.told disk.new) (λ content. all_of content survey.now.pages)) }
+    ensures made { IfOk result (MakesCounted (D.told disk.old) (D.told disk.new) (λ content. all_of content survey.now.pages)) }
     ensures stopped { OnErr result (MakesCut (D.told disk.old) (D.told disk.new) (λ content. all_of content survey.now.pages)) }
     ensures attached { D.attached disk.new ≡ true }
     ensures cause { HasEither (D.read_faults disk.old) (D.read_faults disk.new) (D.op_faults disk.old) (D.op_faults disk.new) result }
@@ -57,7 +56,7 @@ pub fn write_back<D: Disk>(
     requires high { survey.now.page_size ≤ 65536 }
     requires heads { IfTold (D.told disk.old) (λ content. AreHeads content survey.now.page_size heads.now) }
     requires ready { IfTold (D.told disk.old) (IsReady survey.now holders.old) }
-    ensures made { IfOk result (Makes (D.told disk.old) (D.told disk.new) (λ content. rule_of content survey.now.pages)) }
+    ensures made { IfOk result (MakesCounted (D.told disk.old) (D.told disk.new) (λ content. rule_of content survey.now.pages)) }
     ensures stopped { OnErr result (MakesCut (D.told disk.old) (D.told disk.new) (λ content. rule_of content survey.now.pages)) }
     ensures untouched { IfErr result (λ failure. failure ≡ Memory → D.told disk.new ≡ D.told disk.old) }
     ensures attached { D.attached disk.new ≡ true }

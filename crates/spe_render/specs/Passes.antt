@@ -42,8 +42,8 @@ pub record Ends (taken now : Option (List ℕ)) (faults faults_now : ℕ) (print
   pub counts : CountsAtEnd faults faults_now printer result
 
 -- a text was given to a printer, which put nothing to its sink
-abbrev pub Keeps : (printer printer_now : Option (List ℕ)) (text : List ℕ) → Type 0
-Keeps printer now text = (taken : Option (List ℕ)) → (faults : ℕ) → Passes taken taken faults faults printer now text
+abbrev pub KeepsText : (printer printer_now : Option (List ℕ)) (text : List ℕ) → Type 0
+KeepsText printer now text = (taken : Option (List ℕ)) → (faults : ℕ) → Passes taken taken faults faults printer now text
 
 -- no text waits
 abbrev pub HasNone : (printer : Option (List ℕ)) → Type 0

@@ -2,7 +2,7 @@
 
 ghost use Rattle.std.specs.Prelude.{◌≡◌, ◌∷◌, [], Some, decimal, IsTrue, IsFalse};
 ghost use Rattle.std.specs.Fmt.{signed_decimal};
-ghost use Rattle.spe_render.specs.Passes.{Ends, Passes, HasNone, Keeps};
+ghost use Rattle.spe_render.specs.Passes.{Ends, Passes, HasNone, KeepsText};
 
 use arrayvec::ArrayVec;
 use itoa::Buffer;
@@ -57,7 +57,7 @@ impl Printer {
 
     // Lets bytes wait where there is room; where the sink failed they go nowhere.
     fn keep(&mut self, bytes: &[u8]) -> bool
-        ensures kept { IsTrue result → Keeps self.old self.new bytes.now }
+        ensures kept { IsTrue result → KeepsText self.old self.new bytes.now }
         ensures same { IsFalse result → self.new ≡ self.old }
     {
         self.has_failed || self.waiting.try_extend_from_slice(bytes).is_ok()
@@ -65,7 +65,7 @@ impl Printer {
 
     // The same of one byte.
     fn keep_byte(&mut self, byte: u8) -> bool
-        ensures kept { IsTrue result → Keeps self.old self.new (byte ∷ []) }
+        ensures kept { IsTrue result → KeepsText self.old self.new (byte ∷ []) }
         ensures same { IsFalse result → self.new ≡ self.old }
     {
         self.has_failed || self.waiting.try_push(byte).is_ok()

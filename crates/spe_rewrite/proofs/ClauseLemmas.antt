@@ -13,7 +13,7 @@ use Rattle.spe_rewrite.specs.Changes.{AreChanges, changed}
 use Rattle.spe_rewrite.specs.Idle.{AreIdle, MayRewrite}
 use Rattle.spe_rewrite.specs.Laws.{RewriteTurns}
 use Rattle.spe_rewrite.specs.Rewrite.{rewrite_of}
-use Rattle.spe_rewrite.specs.Told.{AddsSome, IfBothTold, IfTold, Makes, MakesCut}
+use Rattle.spe_disk.specs.Added.{AddsSome, IfBothTold, IfTold, Makes, MakesCut}
 use Rattle.spe_rewrite.specs.Turns.{IsFront, Turns}
 use Rattle.spe_rewrite.proofs.LeftLemmas.{IsCut-trans, present_after}
 

@@ -6,7 +6,7 @@ use Rattle.spe_model.specs.Trace.{History, IsCut, IsTorn, Operation, after, pres
 use Rattle.spe_model.specs.Trace.Operation.{Write, Cut}
 use Rattle.spe_disk.specs.Told.{Adds}
 use Rattle.spe_crash.proofs.TraceLemmas.{after-append}
-use Rattle.spe_rewrite.specs.Told.{AddsCut}
+use Rattle.spe_disk.specs.Added.{AddsCut}
 
 pub Adds-nothing : (told : Option History) → Adds told told []
 Adds-nothing None = refl

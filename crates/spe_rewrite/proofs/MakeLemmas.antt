@@ -20,7 +20,7 @@ use Rattle.spe_transactions.specs.Steps.{MadeWorks, OpeningWorks}
 use Rattle.spe_transactions.specs.Work.{no_works}
 use Rattle.spe_transactions.proofs.MovedLemmas.{IsMoved, moved, moved_size}
 use Rattle.spe_rewrite.specs.Idle.{AreIdle}
-use Rattle.spe_rewrite.specs.Told.{AddsSome, IfBothTold, IfTold, MakesCut}
+use Rattle.spe_disk.specs.Added.{AddsSome, IfBothTold, IfTold, MakesCut}
 use Rattle.spe_rewrite.specs.Turns.{KeepsIdle}
 use Rattle.spe_rewrite.proofs.LeftLemmas.{IsCut-front, IsCut-trans, present_after}
 use Rattle.spe_rewrite.proofs.SaveLemmas.{same_pages}

@@ -6,7 +6,7 @@ use Rattle.spe_disk.specs.Told.{Adds}
 use Rattle.spe_rewrite.specs.declared.change.Change.{Change}
 use Rattle.spe_rewrite.specs.Changes.{Ascend}
 use Rattle.spe_rewrite.specs.Rewrite.{putting}
-use Rattle.spe_rewrite.specs.Told.{AddsCut}
+use Rattle.spe_disk.specs.Added.{AddsCut}
 use Rattle.spe_rewrite.proofs.LeftLemmas.{HasLeft, left_broken, left_next}
 
 -- what is left ascends from some page

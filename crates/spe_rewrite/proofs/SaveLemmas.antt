@@ -10,13 +10,14 @@ use Rattle.spe_model.specs.Paging.{Paging}
 use Rattle.spe_model.specs.Recovery.{file_page, file_page_size}
 use Rattle.spe_model.specs.Trace.{History, made_by, present}
 use Rattle.spe_model.specs.Trace.Operation.{Write}
-use Rattle.spe_disk.specs.Told.{Adds, Reads}
+use Rattle.spe_disk.specs.Told.{Adds, ReadsBytes}
 use Rattle.spe_crash.proofs.FileLemmas.{journal_leaves}
 use Rattle.spe_crash.proofs.PlaceLemmas.{ends_mono, page_end}
 use Rattle.spe_rewrite.specs.declared.change.Change.{Change}
 use Rattle.spe_rewrite.specs.Changes.{Ascend}
 use Rattle.spe_rewrite.specs.Rewrite.{old_changes, savings}
-use Rattle.spe_rewrite.specs.Told.{AddsCut, IfTold, KeepsFile, Makes, MakesCut}
+use Rattle.spe_disk.specs.Added.{AddsCut, IfTold, Makes, MakesCut}
+use Rattle.spe_rewrite.specs.Told.{KeepsFile}
 use Rattle.spe_rewrite.proofs.LeftLemmas.{HasLeft, left_broken, left_first, left_next, left_none, present_after}
 
 pub KeepsFile-same : (told : Option History) → KeepsFile told told
@@ -58,7 +59,7 @@ keeps_told (Some h) (Some k) P keeps holds = subst P (sym keeps) holds
 -- a page was read that lies within the file
 pub page_read : (told : Option History) (number size at count : ℕ) (bytes : List ℕ) → 1 ≤ number → at ≡ (number - 1) * size
     → IfTold told (λ content. file_page_size content ≡ size) → IfTold told (λ content. number * size ≤ length (bytes_of content Database))
-    → Reads told Database at size bytes (Ok count) → IfTold told (λ content. bytes ≡ file_page content number)
+    → ReadsBytes told Database at size bytes (Ok count) → IfTold told (λ content. bytes ≡ file_page content number)
 page_read None number size at count bytes some is sized within reads = tt
 page_read (Some h) number size at count bytes some is sized within reads =
     let file = bytes_of (present h) Database in

@@ -9,7 +9,8 @@ use Rattle.spe_model.specs.Trace.{History, Operation, present}
 use Rattle.spe_disk.specs.Told.{Adds}
 use Rattle.spe_rewrite.specs.declared.change.Change.{Change}
 use Rattle.spe_rewrite.specs.Rewrite.{endings, heading, old_changes, putting, rewrite_of, savings}
-use Rattle.spe_rewrite.specs.Told.{AddsCut, IfTold, KeepsFile, Makes, MakesCut, counted}
+use Rattle.spe_disk.specs.Added.{AddsCut, IfTold, Makes, MakesCut}
+use Rattle.spe_rewrite.specs.Told.{KeepsFile, counted}
 use Rattle.spe_rewrite.proofs.LeftLemmas.{HasLeft, left_broken, left_first, left_next, left_none}
 use Rattle.spe_rewrite.proofs.SaveLemmas.{same_pages}
 

@@ -1,40 +1,11 @@
 -- What is done to a disk, where it tells what its files hold.
-use Rattle.std.specs.Prelude.{◌≡◌, ◌⊎◌, ℕ, ◌+◌, ◌-◌, ◌^◌, ◌≤◌, min, List, Option, Some, None, Result, IfErr, OnErr}
+use Rattle.std.specs.Prelude.{◌≡◌, ◌⊎◌, ℕ, ◌+◌, ◌-◌, ◌^◌, ◌≤◌, min, Option, Some, None, Result, IfErr, OnErr}
 use Rattle.spe_model.specs.declared.file.FileNo.TheVariants.{Database}
-use Rattle.spe_model.specs.Content.{Content, bytes_of}
+use Rattle.spe_model.specs.Content.{bytes_of}
 use Rattle.spe_model.specs.Faults.{Rose}
-use Rattle.spe_model.specs.Trace.{History, IsCut, Operation, present}
-use Rattle.spe_disk.specs.Told.{Adds}
+use Rattle.spe_model.specs.Trace.{History, present}
 use Rattle.spe_rewrite.specs.declared.fault.RewriteFault.{RewriteFault}
 use Rattle.spe_rewrite.specs.declared.fault.RewriteFault.TheVariants.{Disk, Memory}
-
--- P of the present content, where the disk tells it
-abbrev pub IfTold : Option History → (Content → Type 0) → Type 0
-IfTold None P = Unit {0}
-IfTold (Some h) P = P (present h)
-
--- P of the contents before and now, where the disk tells both
-abbrev pub IfBothTold : (old new : Option History) → (Content → Content → Type 0) → Type 0
-IfBothTold old new P = IfTold old (λ content. IfTold new (P content))
-
--- these operations were made
-abbrev pub Makes : (old new : Option History) → (Content → List Operation) → Type 0
-Makes None new ops = new ≡ None
-Makes (Some h) new ops = Adds (Some h) new (ops (present h))
-
--- some operations were added, and P holds of them
-pub record AddsSome (old new : Option History) (P : List Operation → Type 0) : Type 0 where
-  pub made : List Operation
-  pub adds : Adds old new made
-  pub holds : P made
-
--- what a stop within these operations leaves was added
-abbrev pub AddsCut : (old new : Option History) → List Operation → Type 0
-AddsCut old new ops = AddsSome old new (IsCut ops)
-
--- the same, where the disk tells it
-abbrev pub MakesCut : (old new : Option History) → (Content → List Operation) → Type 0
-MakesCut old new ops = IfTold old (λ content. AddsCut old new (ops content))
 
 -- the file of the database has the bytes that it had
 abbrev pub KeepsFile : (old new : Option History) → Type 0

@@ -7,7 +7,8 @@ ghost use Rattle.spe_model.specs.Faults.{HasCause};
 ghost use Rattle.spe_model.specs.Recovery.{file_page, file_page_size};
 ghost use Rattle.spe_rewrite.specs.Changes.{Ascend};
 ghost use Rattle.spe_rewrite.specs.Rewrite.{heading, old_changes, savings};
-ghost use Rattle.spe_rewrite.specs.Told.{HasEither, IfTold, KeepsFile, Makes, MakesCut};
+ghost use Rattle.spe_disk.specs.Added.{IfTold, Makes, MakesCut};
+ghost use Rattle.spe_rewrite.specs.Told.{HasEither, KeepsFile};
 
 use crate::change::Change;
 use spe_disk::{Disk, Failed, FileNo};

@@ -4,7 +4,8 @@ ghost use Rattle.std.specs.Prelude.{◌≡◌, ℕ, List, true, length, IfOk, On
 ghost use Rattle.spe_model.specs.Faults.{HasCause};
 ghost use Rattle.spe_disk.specs.Told.{absent_journals, makings};
 ghost use Rattle.spe_rewrite.specs.Idle.{AreIdle};
-ghost use Rattle.spe_rewrite.specs.Told.{AddsSome, IfBothTold, IfTold, Makes, counted};
+ghost use Rattle.spe_disk.specs.Added.{AddsSome, IfBothTold, IfTold, Makes};
+ghost use Rattle.spe_rewrite.specs.Told.{counted};
 ghost use Rattle.spe_rewrite.specs.Turns.{KeepsIdle};
 
 use spe_disk::{Disk, Failed};

@@ -6,7 +6,7 @@ ghost use Rattle.spe_disk.specs.Told.{Adds};
 ghost use Rattle.spe_rewrite.specs.Changes.{Ascend};
 ghost use Rattle.spe_rewrite.specs.declared.change.Change.{Change};
 ghost use Rattle.spe_rewrite.specs.Rewrite.{putting};
-ghost use Rattle.spe_rewrite.specs.Told.{AddsCut};
+ghost use Rattle.spe_disk.specs.Added.{AddsCut};
 
 use crate::change::Change;
 use spe_disk::{Disk, Failed, FileNo};

@@ -10,7 +10,8 @@ ghost use Rattle.spe_rewrite.specs.Changes.{AreChanges, changed};
 ghost use Rattle.spe_rewrite.specs.declared.fault.RewriteFault.TheVariants.{Memory};
 ghost use Rattle.spe_rewrite.specs.Idle.{AreIdle, MayRewrite};
 ghost use Rattle.spe_rewrite.specs.Rewrite.{rewrite_of};
-ghost use Rattle.spe_rewrite.specs.Told.{AddsSome, HasCauses, HasEither, IfBothTold, IfTold, Makes, MakesCut, counted};
+ghost use Rattle.spe_disk.specs.Added.{AddsSome, IfBothTold, IfTold, Makes, MakesCut};
+ghost use Rattle.spe_rewrite.specs.Told.{HasCauses, HasEither, counted};
 ghost use Rattle.spe_rewrite.specs.Turns.{IsFront};
 
 use crate::change::{Change, Changes};

@@ -9,7 +9,7 @@ use Rattle.spe_script.specs.declared.part.Border.{Border}
 use Rattle.spe_script.specs.declared.part.Item.{Item}
 use Rattle.spe_script.specs.Script.{Stretch, item_before, item_of, items_behind, items_from, opens}
 use Rattle.spe_script.specs.Read.{IsMisreadOf}
-use Rattle.spe_script.specs.Gathered.{Gathered, Takes, is_open, txs_before}
+use Rattle.spe_script.specs.Gathered.{Gathered, TakesItem, is_open, txs_before}
 
 abbrev items_ok : List Item → Result (List Item) Misread
 items_ok found = Ok found
@@ -24,7 +24,7 @@ txs_ok txs = Ok txs
 abbrev pub gathers : Gathered → List Stretch → Result (List Tx) Misread
 gathers gathered others = map_ok (txs_before gathered) (items_from (is_open gathered) others)
 
-taken : (item : Option Item) (before after : Gathered) (reading : Result (List Item) Misread) → Takes item before after
+taken : (item : Option Item) (before after : Gathered) (reading : Result (List Item) Misread) → TakesItem item before after
     → map_ok (txs_before before) (map_ok (item_before item) reading) ≡ map_ok (txs_before after) reading
 taken item before after (Ok others) takes = ap txs_ok (sym (takes.txs others))
 taken item before after (Err misread) takes = refl
@@ -35,7 +35,7 @@ reads_first before others reading = map_ok (txs_before before) (items_behind rea
 
 -- a stretch whose item is taken
 pub stretch_taken : (tokens : List Lexeme) (border : Border) (item : Option Item) (before after : Gathered) (all others : List Stretch)
-    → all ≡ (tokens, border) ∷ others → item_of (is_open before) tokens border ≡ found_ok item → Takes item before after
+    → all ≡ (tokens, border) ∷ others → item_of (is_open before) tokens border ≡ found_ok item → TakesItem item before after
     → gathers before all ≡ gathers after others
 stretch_taken tokens border item before after all others e found takes =
     ap (gathers before) e

@@ -20,7 +20,7 @@ abbrev pub txs_before : Gathered → List Item → List Tx
 txs_before gathered others = gathered.0 ++ txs_of others gathered.1
 
 -- what is gathered then has this item in it, whatever items follow
-pub record Takes (item : Option Item) (before after : Gathered) : Type 0 where
+pub record TakesItem (item : Option Item) (before after : Gathered) : Type 0 where
   pub txs : (others : List Item) → txs_before after others ≡ txs_before before (item_before item others)
   pub opened : is_open after ≡ opens (is_open before) item
 

@@ -71,7 +71,7 @@ impl Gathered {
     ghost use Rattle.std.specs.Prelude.{◌≡◌, ◌++◌, ◌∷◌, [], Some, None, OnOk, IfOk};
     ghost use Rattle.spe_script.specs.declared.part.Item.TheVariants.{Statement as Alone};
     ghost use Rattle.spe_script.specs.Script.{ended, txs_of};
-    ghost use Rattle.spe_script.specs.Gathered.{is_open, txs_before, Takes};
+    ghost use Rattle.spe_script.specs.Gathered.{is_open, txs_before, TakesItem};
 
     /// None so far.
     pub fn new(alloc: Global) -> Gathered
@@ -119,7 +119,7 @@ impl Gathered {
 
     // Takes a statement.
     fn push(&mut self, statement: Statement, alloc: Global) -> Result<(), AllocError>
-        ensures { OnOk result (Takes (Some (Alone statement)) self.old self.new) }
+        ensures { OnOk result (TakesItem (Some (Alone statement)) self.old self.new) }
     {
         match &mut self.current {
             Some(transaction) => transaction.push(statement),
@@ -129,7 +129,7 @@ impl Gathered {
 
     /// Takes the item that follows, if there is one.
     pub fn take(&mut self, item: Option<Item>, alloc: Global) -> Result<(), AllocError>
-        ensures { OnOk result (Takes item self.old self.new) }
+        ensures { OnOk result (TakesItem item self.old self.new) }
     {
         match item {
             Some(Item::Begin(kind)) => {

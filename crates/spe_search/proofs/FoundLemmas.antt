@@ -18,7 +18,7 @@ use Rattle.spe_search.specs.declared.page.Found.{Found}
 use Rattle.spe_search.specs.declared.page.Step.{Step}
 use Rattle.spe_search.specs.declared.page.Step.TheVariants.{Missing, Row, Child}
 use Rattle.spe_search.specs.Step.{Leads}
-use Rattle.spe_search.specs.Found.{GivesStep, GivesWhole, FindsBelow, NamesDamage, HasCause, IsStep, IsFaulty, IsReached, NamesRow, ShowsChild}
+use Rattle.spe_search.specs.Found.{GivesStep, GivesWhole, FindsBelow, NamesDamage, HasDamage, IsStep, IsFaulty, IsReached, NamesRow, ShowsChild}
 use Rattle.spe_search.specs.Range.{AddsOfRange, IsOverflowBetween}
 use Rattle.spe_search.proofs.PlaceLemmas.{le_true, le_false}
 use Rattle.spe_search.proofs.AddsLemmas.{root_touched, child_touched, child_over}
@@ -86,7 +86,7 @@ pub reached_below : (usable : ℕ) (pages : Paging) (levels page child at : ℕ)
 reached_below usable pages levels page child at shows reached = record { depth = suc reached.depth; under = omega (arith, reached.under); way = (child, shows, reached.way) }
 
 pub below_names : (X : Type 0) (usable : ℕ) (pages : Paging) (page levels child : ℕ) (result : Result X TreeFault)
-    → ShowsChild usable pages page child → HasCause usable pages child levels result → HasCause usable pages page (suc levels) result
+    → ShowsChild usable pages page child → HasDamage usable pages child levels result → HasDamage usable pages page (suc levels) result
 below_names X usable pages page levels child (Ok found) shows cause = tt
 below_names X usable pages page levels child (Err (Space f)) shows cause = tt
 below_names X usable pages page levels child (Err (Corrupt at)) shows (inl faulty) = inl (reached_below usable pages levels page child at shows faulty.0, faulty.1)
@@ -126,7 +126,7 @@ pub child_names : {P : Type 0} (g : Ghosts P) (early mid late : P) (page : ℕ) 
 child_names g early mid late page rowid levels child result more first second given named pages agrees =
     let step = (given pages (second.earlier pages agrees)).0 in
     let back : suc (levels - 1) ≡ levels = omega (arith, more) in
-    let P : ℕ → Type 0 = λ n. HasCause (g.used early) (sight g early pages) page n result in
+    let P : ℕ → Type 0 = λ n. HasDamage (g.used early) (sight g early pages) page n result in
     let shows : ShowsChild (g.used early) (sight g early pages) page child = record { shown = step.0; is = step.1; has = step.2 } in
     subst P back (below_names (Option (List ℕ)) (g.used early) (sight g early pages) page (levels - 1) child result shows (rw (first.used, first.laid) at (named pages agrees)))
 

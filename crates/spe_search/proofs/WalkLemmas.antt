@@ -14,7 +14,7 @@ use Rattle.spe_space.specs.Calls.{Reads, sight}
 use Rattle.spe_space.specs.declared.pages.Pages.{Ghosts}
 use Rattle.spe_space.specs.declared.fault.TreeFault.{TreeFault}
 use Rattle.spe_space.specs.declared.fault.TreeFault.TheVariants.{Space, Corrupt}
-use Rattle.spe_search.specs.Found.{NamesDamage, HasCause, IsReached, IsFaulty}
+use Rattle.spe_search.specs.Found.{NamesDamage, HasDamage, IsReached, IsFaulty}
 use Rattle.spe_search.specs.Range.{Visits, VisitDamage, WalksBelow, AreTrees, IsWalked, HasWalked}
 use Rattle.spe_search.proofs.PlaceLemmas.{le_false}
 use Rattle.spe_search.proofs.FoundLemmas.{below_names, reached_here}
@@ -149,7 +149,7 @@ walked_names g early now later page low high levels child (Corrupt at) old mid l
     let before = rw e at (walked pages (keeps.earlier pages agrees)) in
     let back : suc (levels - 1) ≡ levels = omega (arith, more) in
     let fault : Result (Unit {0}) TreeFault = Err (Corrupt at) in
-    let P : ℕ → Type 0 = λ n. HasCause (g.used early) (sight g early pages) page n fault in
+    let P : ℕ → Type 0 = λ n. HasDamage (g.used early) (sight g early pages) page n fault in
     subst P back (below_names (Unit {0}) (g.used early) (sight g early pages) page (levels - 1) child fault (before.shown 0 child (omega arith)) (rw (kept.used, kept.laid) at (names pages agrees)))
 
 pub walked_rest : {P : Type 0} (g : Ghosts P) (early now : P) (page low high levels : ℕ) (old new : List (ℤ × List ℕ)) (rest : List ℕ) (n : ℕ) → length rest ≤ n

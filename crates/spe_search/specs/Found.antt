@@ -71,16 +71,16 @@ pub record BreaksRow (usable : ℕ) (pages : Paging) (levels page at : ℕ) : Ty
   pub breaks : BreaksLeaf usable pages leaf at
 
 -- why a page is called corrupt
-abbrev pub HasCause : {X : Type 0} (usable : ℕ) (pages : Paging) (page levels : ℕ) → Result X TreeFault → Type 0
-HasCause usable pages page levels (Ok found) = Unit {0}
-HasCause usable pages page levels (Err (Space f)) = Unit {0}
-HasCause usable pages page levels (Err (Corrupt at)) =
+abbrev pub HasDamage : {X : Type 0} (usable : ℕ) (pages : Paging) (page levels : ℕ) → Result X TreeFault → Type 0
+HasDamage usable pages page levels (Ok found) = Unit {0}
+HasDamage usable pages page levels (Err (Space f)) = Unit {0}
+HasDamage usable pages page levels (Err (Corrupt at)) =
     (IsReached usable pages levels page at × IsFaulty usable pages at) ⊎ (BreaksRow usable pages levels page at ⊎ IsBelow usable pages levels page at)
 
 -- Corrupt comes only where that page is met and breaks a rule, or lies below the last level
 abbrev pub NamesDamage : {P X : Type 0} (g : Ghosts P) (early late : P) (page levels : ℕ) (result : Result X TreeFault) → Type 0
 NamesDamage g early late page levels result =
-    (pages : Paging) → Agrees pages (g.seen late) → HasCause (g.used early) (sight g early pages) page levels result
+    (pages : Paging) → Agrees pages (g.seen late) → HasDamage (g.used early) (sight g early pages) page levels result
 
 abbrev pub IsStep : (usable : ℕ) (pages : Paging) (page : ℕ) (rowid : ℤ) → Result Step TreeFault → Type 0
 IsStep usable pages page rowid (Ok step) = TakesStep (used_of usable pages page) (header_end page) rowid (Ok step)

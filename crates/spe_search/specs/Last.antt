@@ -141,11 +141,11 @@ pub record IsCutTree (usable : ℕ) (pages : Paging) (height a b page before chi
   pub touches : (from to : ℕ) → from ≤ last_rank a (tree_rows usable pages (suc height) page) → b ≤ to
       → Contains (touched from to (node_cells usable pages page) (node_right usable pages page)) child
 
-pub record IsCut (usable : ℕ) (pages : Paging) (page levels before child : ℕ) : Type 0 where
+pub record IsCutOff (usable : ℕ) (pages : Paging) (page levels before child : ℕ) : Type 0 where
   pub shown : ShowsChild usable pages page child
   pub cells : ShowsCells usable pages page before
   pub leaf : (a b : ℕ) → IsTree usable pages zero a b page → ⊥
   pub tree : (height a b : ℕ) → suc height < levels → IsTree usable pages (suc height) a b page → IsCutTree usable pages height a b page before child
 
 abbrev pub HasCut : {P : Type 0} (g : Ghosts P) (early now : P) (page levels before child : ℕ) → Type 0
-HasCut g early now page levels before child = (pages : Paging) → Agrees pages (g.seen now) → IsCut (g.used early) (sight g early pages) page levels before child
+HasCut g early now page levels before child = (pages : Paging) → Agrees pages (g.seen now) → IsCutOff (g.used early) (sight g early pages) page levels before child

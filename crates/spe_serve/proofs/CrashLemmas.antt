@@ -7,14 +7,8 @@ use Rattle.spe_model.specs.declared.recovery.RecoverFault.{RecoverFault}
 use Rattle.spe_model.specs.Content.{Content, bytes_of, file_of, flatten, with_file}
 use Rattle.spe_model.specs.Covered.{Covered, IsCovered}
 use Rattle.spe_model.specs.Recovery.{recovered}
-use Rattle.spe_model.specs.Settled.{LeavesPages}
-use Rattle.spe_model.specs.Trace.{Operation, History, IsCut, IsTorn, after, made_by, present}
+use Rattle.spe_model.specs.Trace.{Operation, IsCut, IsTorn, after, made_by}
 use Rattle.spe_model.specs.Trace.Operation.{Write, Cut}
-use Rattle.spe_serve.specs.Ending.{AnswersStay, Stays}
-use Rattle.spe_serve.specs.declared.reply.Reply.{Reply}
-use Rattle.spe_serve.specs.Answer.{IsOfFile, IsOfRecovery}
-use Rattle.spe_words.specs.declared.command.Command.{Command}
-use Rattle.spe_words.specs.declared.command.Command.TheVariants as commands
 
 get_other : {X : Type 0} (xs : List X) (i j : ℕ) (x : X) → i ≢ j → slice_get (slice_set xs i x) j ≡ slice_get xs j
 get_other [] i j x apart = refl
@@ -42,7 +36,7 @@ made_there (Write (Journal id) at bytes) content there = ap is_some (write_leave
 made_there (Cut Database size) content there = set_there content _ there
 made_there (Cut (Journal id) size) content there = ap is_some (journal_leaves content id _) ∙ there
 
-after_there : (os : List Operation) (content : Content) → is_some (file_of content Database) ≡ true → is_some (file_of (after content os) Database) ≡ true
+pub after_there : (os : List Operation) (content : Content) → is_some (file_of content Database) ≡ true → is_some (file_of (after content os) Database) ≡ true
 after_there [] content there = there
 after_there (o ∷ os) content there = after_there os (made_by o content) (made_there o content there)
 
@@ -73,7 +67,7 @@ torn_absent (Write (Journal id) at bytes) (Write file place front) content cover
 torn_absent (Write (Journal id) at bytes) (Cut file size) content covered torn absent = absurd torn
 torn_absent (Cut file size) t content covered torn absent = absurd torn
 
-cut_absent : (os cut : List Operation) (content : Content) → Covered content os → IsCut os cut → file_of content Database ≡ None → file_of (after content cut) Database ≡ None
+pub cut_absent : (os cut : List Operation) (content : Content) → Covered content os → IsCut os cut → file_of content Database ≡ None → file_of (after content cut) Database ≡ None
 cut_absent os [] content covered is absent = absent
 cut_absent [] (c ∷ cs) content covered is absent = absurd is
 cut_absent (o ∷ os) (c ∷ cs) content covered is absent = ⊎_elim
@@ -81,37 +75,3 @@ cut_absent (o ∷ os) (c ∷ cs) content covered is absent = ⊎_elim
     rw whole.0 (cut_absent os cs (made_by o content) covered.1 whole.1 (made_absent o content covered.0 absent)))
     (λ (torn : IsTorn o c × (cs ≡ [])). rw torn.1 (torn_absent o c content covered.0 torn.0 absent))
     is
-
-answer_stays : (c : Command) (content now : Content) (reply : Reply) → recovered now ≡ recovered content
-    → (is_some (file_of content Database) ≡ true → is_some (file_of now Database) ≡ true)
-    → (file_of content Database ≡ None → file_of now Database ≡ None)
-    → IsOfFile c content (file_of content Database) reply → IsOfFile c now (file_of now Database) reply
-answer_stays c content now reply same there absent is = by_files (file_of content Database) (file_of now Database) there absent is
-  where
-    by_files : (old new : Option (List ℕ)) → (is_some old ≡ true → is_some new ≡ true) → (old ≡ None → new ≡ None) → IsOfFile c content old reply → IsOfFile c now new reply
-    by_files None None there absent is = is
-    by_files None (Some file) there absent is = absurd (let none = absent refl in cc)
-    by_files (Some file) None there absent is = absurd (let some = there refl in cc)
-    by_files (Some file) (Some other) there absent is = subst (λ (r : Result (List (List ℕ)) RecoverFault). IsOfRecovery c r reply) (sym same) is
-
-pub answers_stay : (words : List (List ℕ)) (old new : Option History) → LeavesPages old new → AnswersStay words old new
-answers_stay words None new leaves = tt
-answers_stay words (Some h) new leaves = record {
-  made = leaves.made;
-  adds = leaves.adds;
-  stays = λ c asked. command_stays c;
-}
-  where
-    file_stays : (c : Command) (cut : List Operation) → IsCut leaves.made cut → (reply : Reply)
-        → IsOfFile c (present h) (file_of (present h) Database) reply → IsOfFile c (after (present h) cut) (file_of (after (present h) cut) Database) reply
-    file_stays c cut is reply =
-        answer_stays c (present h) (after (present h) cut) reply (leaves.stops cut is) (after_there cut (present h))
-        (cut_absent leaves.made cut (present h) leaves.covered is)
-
-    command_stays : (c : Command) → Stays c (present h) leaves.made
-    command_stays (commands.Rows db table) = file_stays (commands.Rows db table)
-    command_stays (commands.Check db) = file_stays (commands.Check db)
-    command_stays (commands.Prepare db lists) = λ cut is reply same. same
-    command_stays (commands.Release db) = λ cut is reply same. same
-    command_stays (commands.Run db scripts workers retries slots) = λ cut is reply same. same
-    command_stays (commands.Work db seed count) = λ cut is reply same. same

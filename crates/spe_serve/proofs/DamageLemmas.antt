@@ -1,5 +1,5 @@
 -- Why the rows of a table are damaged.
-use Rattle.std.proofs.Common.{◌≡◌, ℕ, true, false, Bool, List, [], ◌∷◌, Some, None, Result, Ok, Err, refl, sym, ◌∙◌, subst, inl, inr}
+use Rattle.std.proofs.Common.{◌≡◌, ℕ, true, false, Bool, List, [], ◌∷◌, Some, Result, Ok, Err, refl, ◌∙◌, subst, inl, inr}
 use Rattle.std.specs.List.{Contains, find}
 use Rattle.spe_model.specs.declared.catalog.Entry.{Entry}
 use Rattle.spe_model.specs.Database.{Row}

@@ -1,6 +1,9 @@
 -- What the status tells, by the outcome whose text was printed.
-use Rattle.std.proofs.Common.{◌≡◌, ◌==◌, ℕ, true, false, arith, List, Option, refl, sym, ap, subst, ◌∙◌, inl, inr}
+use Rattle.std.proofs.Common.{◌≡◌, ◌==◌, ℕ, true, false, arith, List, Option, Result, Ok, Err, IfOk, refl, sym, ap, subst, ◌∙◌, inl, inr}
 use Rattle.std.specs.Prelude.{◌≢◌, ◌⊎◌}
+use Rattle.std.specs.declared.vec.Vec.{Vec}
+use Rattle.std.specs.declared.alloc.Global.{Global}
+use Rattle.std.specs.declared.alloc.AllocError.{AllocError}
 use Rattle.spe_model.specs.Trace.{History}
 use Rattle.spe_disk.specs.declared.sink.Sink.{Ghosts}
 use Rattle.spe_words.specs.declared.command.Command.{Command}
@@ -9,9 +12,10 @@ use Rattle.spe_serve.specs.declared.outcome.Outcome.{Outcome}
 use Rattle.spe_serve.specs.declared.outcome.Outcome.TheVariants as outcomes
 use Rattle.spe_serve.specs.declared.reply.Reply.{Reply}
 use Rattle.spe_serve.specs.declared.reply.Reply.TheVariants as replies
-use Rattle.spe_serve.specs.Ending.{Ends, EndsOnFailure, EndsRefused, IsOutcome, IsReply, Prints, PrintsOutcome, SinkFailsOnce, outcome_text}
+use Rattle.spe_serve.specs.Ending.{Ends, EndsOnFailure, EndsRefused, IsOutcome, IsReply, Prints, PrintsAnswer, PrintsMade, PrintsOutcome, SinkFailsOnce, outcome_text}
 use Rattle.spe_serve.specs.Made.{IsMadeAt, IsMadeFor, IsMadeOf}
-use Rattle.spe_serve.specs.Reply.{AskForNone, IsAbout, status_of}
+use Rattle.spe_serve.specs.Reply.{AskForNone, IsAbout, status_of, text_of}
+use Rattle.spe_serve.proofs.MadeLemmas.{memory_all}
 
 apart : (a b : ℕ) → (a == b) ≡ false → a ≡ b → ⊥
 apart a b differ e = let same : (a == b) ≡ true = grind arith in let both = sym same ∙ differ in cc
@@ -27,6 +31,7 @@ status_one (replies.Corrupt page) is = absurd (apart 2 1 refl is)
 status_one replies.NoTable is = absurd (apart 2 1 refl is)
 status_one (replies.ClosedTable why) is = absurd (apart 2 1 refl is)
 status_one (replies.Rows rows) is = absurd (apart 0 1 refl is)
+status_one (replies.Released free pages) is = absurd (apart 0 1 refl is)
 
 no_fault : (reply : Reply) → status_of reply ≡ 3 → ⊥
 no_fault replies.Words is = apart 1 3 refl is
@@ -39,13 +44,14 @@ no_fault (replies.Corrupt page) is = apart 2 3 refl is
 no_fault replies.NoTable is = apart 2 3 refl is
 no_fault (replies.ClosedTable why) is = apart 2 3 refl is
 no_fault (replies.Rows rows) is = apart 0 3 refl is
+no_fault (replies.Released free pages) is = apart 0 3 refl is
 
 -- no command is answered that there is none
 never_words : (c : Command) → IsAbout c replies.Words → ⊥
 never_words (commands.Rows db table) about = about
 never_words (commands.Check db) about = about
 never_words (commands.Prepare db lists) about = cc
-never_words (commands.Release db) about = cc
+never_words (commands.Release db) about = about
 never_words (commands.Run db scripts workers retries slots) about = cc
 never_words (commands.Work db seed count) about = cc
 
@@ -89,9 +95,15 @@ pub ends_on_failure : {W : Type 0} (g : Ghosts W) (before now : W) (words : List
 ends_on_failure g before now words told rose IsMade status (outcome, of, made, inl (all, is)) = inl all.count
 ends_on_failure g before now words told rose IsMade status (outcome, of, made, inr (within, is)) = inr (is, within.count)
 
+-- an answer's text was printed, or there was no memory for it
+pub answer_made : {W : Type 0} (g : Ghosts W) (before now : W) (made : Result (Vec ℕ Global) AllocError) (reply : Reply) (status : ℕ) → IfOk made (λ v. v.items ≡ text_of reply)
+    → PrintsMade g before now made (status_of reply) status → PrintsAnswer g before now reply status
+answer_made g before now (Ok text) reply status is prints = inl (subst (λ (t : List ℕ). Prints g before now t (status_of reply) status) is prints)
+answer_made g before now (Err e) reply status is prints = inr prints
+
 -- where there was no memory for the text of an answer, all the same was made
 lost : (words : List (List ℕ)) (old new : Option History) (reply : Reply) → IsMadeOf words old new (outcomes.Answered reply) → IsMadeOf words old new outcomes.NoMemory
-lost words old new reply made = λ c asked. record { part = (made c asked).part; whole = inr (made c asked).whole; settled = λ built. tt }
+lost words old new reply made = λ c asked. record { part = (made c asked).part; whole = memory_all c old new (made c asked).whole; settled = λ built. tt }
 
 -- the outcome whose text was printed: where there was no memory for it, want of memory
 pub ends_by : {W : Type 0} (g : Ghosts W) (before now : W) (words : List (List ℕ)) (told : Option History) (rose : Type 0) (old new : Option History) (outcome : Outcome) (status : ℕ)

@@ -9,8 +9,15 @@ pub mod InsideLemmas
 pub mod AskedLemmas
 pub mod AskLemmas
 pub mod FileLemmas
+pub mod UntoldLemmas
+pub mod TraceLemmas
+pub mod StockLemmas
+pub mod SameLemmas
+pub mod BehindLemmas
+pub mod OwnLemmas
 pub mod RefusedLemmas
 pub mod OutcomeLemmas
 pub mod CrashLemmas
+pub mod StayLemmas
 pub mod MadeLemmas
 pub mod EndingLemmas

@@ -8,7 +8,7 @@ use Rattle.spe_model.specs.Trace.{History, present, after}
 use Rattle.spe_model.specs.Faults.{Rose}
 use Rattle.spe_disk.specs.declared.disk.Disk.{Ghosts}
 use Rattle.spe_disk.specs.Told.{Finds, NothingDone}
-use Rattle.spe_recover.specs.Told.{IfTold}
+use Rattle.spe_disk.specs.Added.{IfTold}
 use Rattle.spe_words.specs.declared.command.Command.{Command}
 use Rattle.spe_words.specs.declared.command.Command.TheVariants as commands
 use Rattle.spe_words.specs.Grammar.{AskFor}
@@ -47,7 +47,7 @@ there_reply : (c : Command) (content : Content) (bytes : List ℕ) (reply : Repl
 there_reply (commands.Rows db table) content bytes reply built there is = rw there is
 there_reply (commands.Check db) content bytes reply built there is = rw there is
 there_reply (commands.Prepare db lists) content bytes reply built there is = absurd cc
-there_reply (commands.Release db) content bytes reply built there is = absurd cc
+there_reply (commands.Release db) content bytes reply built there is = rw there is
 there_reply (commands.Run db scripts workers retries slots) content bytes reply built there is = absurd cc
 there_reply (commands.Work db seed count) content bytes reply built there is = absurd cc
 
@@ -56,7 +56,7 @@ absent_reply : (c : Command) (content : Content) → is_built c ≡ true → fil
 absent_reply (commands.Rows db table) content built absent = rw absent refl
 absent_reply (commands.Check db) content built absent = rw absent refl
 absent_reply (commands.Prepare db lists) content built absent = absurd cc
-absent_reply (commands.Release db) content built absent = absurd cc
+absent_reply (commands.Release db) content built absent = rw absent refl
 absent_reply (commands.Run db scripts workers retries slots) content built absent = absurd cc
 absent_reply (commands.Work db seed count) content built absent = absurd cc
 
@@ -64,7 +64,7 @@ absent_about : (c : Command) → is_built c ≡ true → IsAbout c replies.NoDat
 absent_about (commands.Rows db table) built = tt
 absent_about (commands.Check db) built = tt
 absent_about (commands.Prepare db lists) built = absurd cc
-absent_about (commands.Release db) built = absurd cc
+absent_about (commands.Release db) built = tt
 absent_about (commands.Run db scripts workers retries slots) built = absurd cc
 absent_about (commands.Work db seed count) built = absurd cc
 

@@ -1,12 +1,8 @@
 -- Answers without pages.
-use Rattle.std.proofs.Common.{◌≡◌, List, [], ◌∷◌, refl, sym, ap, true, Option, Some, None}
+use Rattle.std.proofs.Common.{◌≡◌, true}
 use Rattle.std.specs.Prelude.{IfOk}
-use Rattle.std.proofs.lemmas.List.{append-nil}
 use Rattle.spe_model.specs.declared.recovery.RecoverFault.{RecoverFault}
 use Rattle.spe_model.specs.declared.recovery.RecoverFault.TheVariants as refusals
-use Rattle.spe_model.specs.Recovery.{recovered}
-use Rattle.spe_model.specs.Settled.{LeavesPages}
-use Rattle.spe_model.specs.Trace.{Operation, History, IsCut, after, present}
 use Rattle.spe_words.specs.declared.command.Command.{Command}
 use Rattle.spe_words.specs.declared.command.Command.TheVariants as commands
 use Rattle.spe_serve.specs.Answer.{is_built}
@@ -18,7 +14,7 @@ refused_built : (c : Command) (fault : RecoverFault) → is_built c ≡ true →
 refused_built (commands.Rows db table) fault built plain = plain
 refused_built (commands.Check db) fault built plain = plain
 refused_built (commands.Prepare db lists) fault built plain = absurd cc
-refused_built (commands.Release db) fault built plain = absurd cc
+refused_built (commands.Release db) fault built plain = plain
 refused_built (commands.Run db scripts workers retries slots) fault built plain = absurd cc
 refused_built (commands.Work db seed count) fault built plain = absurd cc
 
@@ -31,17 +27,3 @@ refused_about c (refusals.Overlap page a b) built = refused_built c (refusals.Ov
 refused_about c (refusals.TooLarge pages) built = refused_built c (refusals.TooLarge pages) built tt
 refused_about c (refusals.ShortFile pages bytes) built = refused_built c (refusals.ShortFile pages bytes) built tt
 refused_about c refusals.NotPrepared built = refused_built c refusals.NotPrepared built tt
-
--- nothing was done
-pub leaves_same : (told : Option History) → LeavesPages told told
-leaves_same None = tt
-leaves_same (Some h) = record {
-  made = [];
-  adds = ap (λ (trace : List Operation). Some (record { first = h.first; trace = trace })) (sym (append-nil h.trace));
-  covered = tt;
-  stops = λ cut part. only_none cut part;
-}
-  where
-    only_none : (cut : List Operation) → IsCut [] cut → recovered (after (present h) cut) ≡ recovered (present h)
-    only_none [] part = refl
-    only_none (o ∷ os) part = absurd part

@@ -1,7 +1,8 @@
--- Which answers are right: `check` and `rows` over the recovered pages of a database.
+-- Which answers are right: those of `check`, `rows` and `release` over the recovered pages of a database.
 use Rattle.std.specs.Prelude.{◌≡◌, ℕ, Bool, true, false, List, length, Option, Some, None, Result, Ok, Err}
 use Rattle.spe_model.specs.declared.file.FileNo.TheVariants as files
 use Rattle.spe_model.specs.declared.recovery.RecoverFault.{RecoverFault}
+use Rattle.spe_model.specs.declared.recovery.RecoverFault.TheVariants.{NotPrepared}
 use Rattle.spe_model.specs.declared.table.Closed.{Closed}
 use Rattle.spe_model.specs.declared.table.TableDef.{TableDef}
 use Rattle.spe_model.specs.declared.verdict.Verdict.{Verdict}
@@ -15,6 +16,9 @@ use Rattle.spe_model.specs.Served.{usable_in}
 use Rattle.spe_model.specs.Settled.{header_in, page_in}
 use Rattle.spe_model.specs.Standing.{StandsFor}
 use Rattle.spe_model.specs.Verdict.{verdict_of}
+use Rattle.spe_recover.specs.declared.want.Want.{Want}
+use Rattle.spe_recover.specs.declared.want.Want.TheVariants.{Any, Prepared}
+use Rattle.spe_recover.specs.Recovered.{is_wanted}
 use Rattle.spe_words.specs.declared.command.Command.{Command}
 use Rattle.spe_words.specs.declared.command.Command.TheVariants as commands
 use Rattle.spe_serve.specs.declared.reply.Reply.{Reply}
@@ -45,15 +49,41 @@ abbrev pub IsOfVerdict : (name : List ℕ) (usable count : ℕ) (pages : Paging)
 IsOfVerdict name usable count pages (verdicts.Broken page rule) reply = reply ≡ replies.Corrupt page
 IsOfVerdict name usable count pages (verdicts.Stands tables rows free) reply = IsOfStanding name usable count pages reply
 
+-- the pages stand for a database, and the answer is how many of them are free, the node page among them
+pub record IsOfFree (usable count : ℕ) (pages : Paging) (reply : Reply) : Type 0 where
+  pub db : Database
+  pub stands : StandsFor usable count pages db
+  pub reply_is : reply ≡ replies.Released (length stands.listed) count
+
+-- the answer of `release` after a verdict: a broken page comes before what is free
+abbrev pub IsOfSound : (usable count : ℕ) (pages : Paging) → Verdict → Reply → Type 0
+IsOfSound usable count pages (verdicts.Broken page rule) reply = reply ≡ replies.Corrupt page
+IsOfSound usable count pages (verdicts.Stands tables rows free) reply = IsOfFree usable count pages reply
+
 -- the answer to a command over so many pages by number
 abbrev pub IsOverPages : Command → (usable count : ℕ) (pages : Paging) → Reply → Type 0
 IsOverPages (commands.Check db) usable count pages reply = reply ≡ reply_of_verdict count (verdict_of usable count pages)
 IsOverPages (commands.Rows db table) usable count pages reply = IsOfVerdict table usable count pages (verdict_of usable count pages) reply
+IsOverPages (commands.Release db) usable count pages reply = IsOfSound usable count pages (verdict_of usable count pages) reply
 IsOverPages _ usable count pages reply = ⊥
 
--- the answer over the recovered pages, whose header says how many bytes of each are used
+-- what a command wants of the recovered pages: `release` wants server form
+abbrev pub want_of : Command → Want
+want_of (commands.Release db) = Prepared
+want_of _ = Any
+
+-- the answer over pages that are such as the command wants, whose header says how many bytes of each are used
+abbrev pub IsOverFound : Command → List (List ℕ) → Reply → Type 0
+IsOverFound c pages reply = IsOverPages c (usable_in (header_in pages)) (length pages) (page_in pages) reply
+
+-- or are not
+abbrev pub IsOverWanted : Command → List (List ℕ) → Bool → Reply → Type 0
+IsOverWanted c pages true reply = IsOverFound c pages reply
+IsOverWanted c pages false reply = reply ≡ replies.Refused NotPrepared
+
+-- the answer over the recovered pages, whose header says what form they have
 abbrev pub IsOverRecovered : Command → List (List ℕ) → Reply → Type 0
-IsOverRecovered c pages reply = IsOverPages c (usable_in (header_in pages)) (length pages) (page_in pages) reply
+IsOverRecovered c pages reply = IsOverWanted c pages (is_wanted (want_of c) (header_in pages)) reply
 
 -- or the reason why there are none
 abbrev pub IsOfRecovery : Command → Result (List (List ℕ)) RecoverFault → Reply → Type 0
@@ -64,14 +94,22 @@ abbrev pub IsOfFile : Command → Content → Option (List ℕ) → Reply → Ty
 IsOfFile c content None reply = reply ≡ replies.NoDatabase
 IsOfFile c content (Some file) reply = IsOfRecovery c (recovered content) reply
 
+-- the commands that read a database and change none of its pages, so far
+abbrev pub only_reads : Command → Bool
+only_reads (commands.Rows db table) = true
+only_reads (commands.Check db) = true
+only_reads _ = false
+
 -- the commands that look at a database so far
 abbrev pub is_built : Command → Bool
 is_built (commands.Rows db table) = true
 is_built (commands.Check db) = true
+is_built (commands.Release db) = true
 is_built _ = false
 
 -- the answer to a command over a content; that it is not built comes before its database is looked at
 abbrev pub IsReplyTo : Command → Content → Reply → Type 0
 IsReplyTo (commands.Rows db table) content reply = IsOfFile (commands.Rows db table) content (file_of content files.Database) reply
 IsReplyTo (commands.Check db) content reply = IsOfFile (commands.Check db) content (file_of content files.Database) reply
+IsReplyTo (commands.Release db) content reply = IsOfFile (commands.Release db) content (file_of content files.Database) reply
 IsReplyTo _ content reply = reply ≡ replies.NotBuilt

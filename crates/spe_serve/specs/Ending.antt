@@ -1,9 +1,10 @@
 -- How a run of the program ends: what it printed, and its status.
-use Rattle.std.specs.Prelude.{◌≡◌, ℕ, ◌⊎◌, true, List, Option, Some, None, Result, Ok, Err, codes}
+use Rattle.std.specs.Prelude.{◌≡◌, ℕ, ◌⊎◌, Bool, true, false, not, List, Option, Some, None, Result, Ok, Err, codes}
 use Rattle.std.specs.declared.vec.Vec.{Vec}
 use Rattle.std.specs.declared.alloc.Global.{Global}
 use Rattle.std.specs.declared.alloc.AllocError.{AllocError}
 use Rattle.spe_model.specs.Content.{Content}
+use Rattle.spe_model.specs.Standing.{Whether}
 use Rattle.spe_model.specs.Trace.{Operation, History, IsCut, after, present}
 use Rattle.spe_disk.specs.declared.disk.Disk.{Ghosts as DiskGhosts}
 use Rattle.spe_disk.specs.declared.sink.Sink.{Ghosts as SinkGhosts}
@@ -12,6 +13,7 @@ use Rattle.spe_disk.specs.Listed.{next_number}
 use Rattle.spe_disk.specs.Told.{Adds}
 use Rattle.spe_disk.specs.Sink.{Appends, AppendsFront}
 use Rattle.spe_words.specs.declared.command.Command.{Command}
+use Rattle.spe_words.specs.declared.command.Command.TheVariants as commands
 use Rattle.spe_words.specs.Grammar.{AskFor}
 use Rattle.spe_serve.specs.declared.reply.Reply.{Reply}
 use Rattle.spe_model.specs.declared.recovery.RecoverFault.{RecoverFault}
@@ -124,15 +126,28 @@ EndsRefused g before now status = (status ≡ 1) ⊎ ((status ≡ 4) ⊎ ((statu
 abbrev pub EndsOnFailure : {W : Type 0} (g : SinkGhosts W) (before now : W) (status : ℕ) → Type 0
 EndsOnFailure g before now status = (g.faults now ≡ g.faults before) ⊎ ((status ≡ 3) × SinkFailsOnce g before now)
 
+-- an answer that says that something was done, and what was done is done once
+abbrev pub is_done : Reply → Bool
+is_done (replies.Released free pages) = true
+is_done _ = false
+
+-- an answer that a crash leaves right: all of those that read, and the refusals of those that write
+abbrev pub is_lasting : Command → Reply → Bool
+is_lasting (commands.Release db) reply = not (is_done reply)
+is_lasting _ reply = true
+
 -- a right answer to a command over a content is right over what a crash leaves of these operations
 abbrev pub Stays : Command → Content → List Operation → Type 0
-Stays c content made = (cut : List Operation) → IsCut made cut → (reply : Reply) → IsReplyTo c content reply → IsReplyTo c (after content cut) reply
+Stays c content made =
+    (cut : List Operation) → IsCut made cut → (reply : Reply) → Whether (is_lasting c reply) (IsReplyTo c content reply → IsReplyTo c (after content cut) reply) (Unit {0})
 
--- so it is of the operations that were added, for the command that the words ask for
+-- so it is of the operations that were added, for the command that the words ask for; and whatever it is, the rows of each table
+-- stay the same
 pub record AnswerStays (words : List (List ℕ)) (h : History) (new : Option History) : Type 0 where
   pub made : List Operation
   pub adds : Adds (Some h) new made
   pub stays : (c : Command) → AskFor words c → Stays c (present h) made
+  pub rows : (c : Command) → AskFor words c → (db table : List ℕ) → Stays (commands.Rows db table) (present h) made
 
 -- the same, where the disk tells what was done
 abbrev pub AnswersStay : List (List ℕ) → Option History → Option History → Type 0

@@ -3,5 +3,7 @@ pub mod Answer
 pub mod Row
 pub mod Space
 pub mod Failure
+pub mod Own
+pub mod Behind
 pub mod Made
 pub mod Ending

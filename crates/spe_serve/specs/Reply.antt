@@ -39,10 +39,19 @@ IsAboutVerdict (replies.Sound pages tables rows free) = Unit {0}
 IsAboutVerdict (replies.Damage page rule) = Unit {0}
 IsAboutVerdict _ = ⊥
 
+-- an answer to words that ask for free lists in stock form
+abbrev pub IsAboutRelease : Reply → Type 0
+IsAboutRelease replies.NoDatabase = Unit {0}
+IsAboutRelease (replies.Refused fault) = IsPlain fault
+IsAboutRelease (replies.Corrupt page) = Unit {0}
+IsAboutRelease (replies.Released free pages) = Unit {0}
+IsAboutRelease _ = ⊥
+
 -- an answer that a command may have
 abbrev pub IsAbout : Command → Reply → Type 0
 IsAbout (commands.Rows db table) reply = IsAboutRows reply
 IsAbout (commands.Check db) reply = IsAboutVerdict reply
+IsAbout (commands.Release db) reply = IsAboutRelease reply
 IsAbout _ reply = reply ≡ replies.NotBuilt
 
 -- the words are no command
@@ -85,6 +94,10 @@ abbrev pub counts : (pages tables rows free : ℕ) → List ℕ
 counts pages tables rows free =
     codes "ok pages " ++ decimal pages ++ codes " tables " ++ decimal tables ++ codes " rows " ++ decimal rows ++ codes " free " ++ decimal free
 
+-- how many pages are free, and how many there are
+abbrev pub released_counts : (free pages : ℕ) → List ℕ
+released_counts free pages = codes "released free " ++ decimal free ++ codes " pages " ++ decimal pages
+
 abbrev pub text_of : Reply → List ℕ
 text_of replies.Words = line (codes "refused words")
 text_of replies.NoDatabase = line (codes "refused no-such-database")
@@ -96,10 +109,12 @@ text_of (replies.Corrupt page) = line (codes "refused corrupt " ++ decimal page)
 text_of replies.NoTable = line (codes "refused no-table")
 text_of (replies.ClosedTable why) = line (codes "refused closed-table " ++ decimal (closed_number why))
 text_of (replies.Rows rows) = table_text rows
+text_of (replies.Released free pages) = line (released_counts free pages)
 
 abbrev pub status_of : Reply → ℕ
 status_of (replies.Rows rows) = 0
 status_of (replies.Sound pages tables rows free) = 0
+status_of (replies.Released free pages) = 0
 status_of replies.Words = 1
 status_of replies.NoDatabase = 2
 status_of (replies.Refused fault) = 2

@@ -1,10 +1,10 @@
 //! The answers of the commands that read a database, over the pages of a space.
 
-ghost use Rattle.std.specs.Prelude.{◌≡◌, ◌≤◌, ◌*◌, ◌^◌, true, None, IfErr, IfOk};
+ghost use Rattle.std.specs.Prelude.{◌≡◌, ◌≤◌, ◌*◌, ◌^◌, true, [], None, IfErr, IfOk};
 ghost use Rattle.spe_model.specs.Verdict.{verdict_of};
 ghost use Rattle.spe_space.specs.Calls.{Reads, RefusesTree};
 ghost use Rattle.spe_words.specs.declared.command.Command.TheVariants as commands;
-ghost use Rattle.spe_serve.specs.Answer.{reply_of_verdict, is_built, IsOfVerdict, IsOverPages};
+ghost use Rattle.spe_serve.specs.Answer.{reply_of_verdict, only_reads, IsOfVerdict, IsOverPages};
 ghost use Rattle.spe_serve.specs.Reply.{IsAbout, IsAboutRows, IsAboutVerdict};
 ghost use Rattle.spe_serve.specs.Space.{AnswersTold, AsksInside, IsFaultAbout, IsOfFront, AsksOver, AsksTold, GivesOver};
 
@@ -79,7 +79,7 @@ fn reply_over<S: Pages>(
     pages: u32,
     command: &Command,
 ) -> Result<Reply, TreeFault>
-    requires built { is_built command.now ≡ true }
+    requires reads { only_reads command.now ≡ true }
     requires refusal { S.Pages.refusal space.old ≡ None }
     requires some { 1 ≤ pages }
     requires few { pages * S.Pages.size space.old ≤ 2 ^ 30 }
@@ -100,6 +100,21 @@ fn reply_over<S: Pages>(
     }
 }
 
+/// The answer of `check` over so many pages, which are those that the space tells.
+pub fn check_answer<S: Pages>(alloc: Global, space: &mut S, pages: u32) -> Result<Reply, TreeFault>
+    requires refusal { S.Pages.refusal space.old ≡ None }
+    requires some { 1 ≤ pages }
+    requires few { pages * S.Pages.size space.old ≤ 2 ^ 30 }
+    ensures reply { AnswersTold S.Pages space.old (commands.Check []) pages result }
+    ensures about { IfOk result IsAboutVerdict }
+    ensures fault { IfErr result (IsFaultAbout (commands.Check []) pages) }
+    ensures asks { AsksTold S.Pages space.old pages result }
+    ensures kept { Reads S.Pages space.old space.new }
+    ensures refusal { RefusesTree S.Pages space.old space.new result }
+{
+    check_reply(alloc, space, pages)
+}
+
 /// The answer to a command over so many pages, which are those that the space tells.
 ///
 /// Corrupt never comes where the space tells its pages and page 1 has the front that was found before, and
@@ -111,7 +126,7 @@ pub fn answer<S: Pages>(
     pages: u32,
     command: &Command,
 ) -> Result<Reply, TreeFault>
-    requires built { is_built command.now ≡ true }
+    requires reads { only_reads command.now ≡ true }
     requires refusal { S.Pages.refusal space.old ≡ None }
     requires some { 1 ≤ pages }
     requires few { pages * S.Pages.size space.old ≤ 2 ^ 30 }

@@ -1,18 +1,21 @@
 //! The commands of the program: `spe` does all that the program does.
 //!
-//! So far that is `check` and `rows`, over any database. Its contract names the bytes that are
-//! printed, the status, what may have gone wrong outside where it is 3, and the operations that were
-//! made on the files.
+//! So far that is `check` and `rows`, over any database, and `release`, over one in server form. Its
+//! contract names the bytes that are printed, the status, what may have gone wrong outside where it is 3,
+//! the operations that were made on the files, and what the files hold then.
 #![tactic(auto)]
 
 mod ask;
 mod failure;
 mod file;
 mod outcome;
+mod pages;
+mod release;
 mod reply;
 mod row;
 mod serve;
 mod table;
+mod tallied;
 mod verdict;
 
 pub use serve::{Finished, spe};

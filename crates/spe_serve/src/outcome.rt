@@ -1,11 +1,11 @@
 //! What the program does with its words, up to printing.
 
 ghost use Rattle.std.specs.Prelude.{◌≡◌, false, true};
-ghost use Rattle.spe_model.specs.Settled.{LeavesPages};
 ghost use Rattle.spe_serve.specs.Answer.{is_built};
 ghost use Rattle.spe_words.specs.Grammar.{AskFor};
 ghost use Rattle.spe_serve.specs.Ending.{DiskFails, IsOutcome, IsOutcomeOf, outcome_of};
 ghost use Rattle.spe_serve.specs.Made.{IsMadeFor};
+ghost use Rattle.spe_serve.specs.Own.{LeavesPagesFor, LeavesPagesOf};
 ghost use Rattle.spe_serve.specs.Reply.{AskForNone};
 
 use crate::failure::Failure;
@@ -37,7 +37,7 @@ fn answered(reply: Result<Reply, Failure>) -> Outcome
     }
 }
 
-// The outcome of a command that reads a database.
+// The outcome of a command that looks at a database.
 fn file_outcome<D: Disk>(
     alloc: Global,
     database: &Text,
@@ -48,7 +48,7 @@ fn file_outcome<D: Disk>(
     requires attached { D.attached disk ≡ false }
     ensures outcome { IsOutcomeOf command.now (D.told disk) (DiskFails D.Disk disk result.1) result.0 }
     ensures made { IsMadeFor command.now (D.told disk) (D.told result.1) result.0 }
-    ensures leaves { LeavesPages (D.told disk) (D.told result.1) }
+    ensures leaves { LeavesPagesOf command.now (D.told disk) (D.told result.1) }
 {
     match disk.attach(database.as_str()) {
         Ok(true) => {
@@ -61,31 +61,31 @@ fn file_outcome<D: Disk>(
 }
 
 // The outcome of a command.
-#[tactic(auto, using(crate::proofs::RefusedLemmas::leaves_same, crate::proofs::MadeLemmas::unbuilt_for))]
+#[tactic(auto, using(crate::proofs::OwnLemmas::unbuilt_leaves, crate::proofs::MadeLemmas::unbuilt_for))]
 fn obey<D: Disk>(alloc: Global, command: &Command, disk: D) -> (Outcome, D)
     requires { D.attached disk ≡ false }
     ensures outcome { IsOutcomeOf command.now (D.told disk) (DiskFails D.Disk disk result.1) result.0 }
     ensures made { IsMadeFor command.now (D.told disk) (D.told result.1) result.0 }
-    ensures leaves { LeavesPages (D.told disk) (D.told result.1) }
+    ensures leaves { LeavesPagesOf command.now (D.told disk) (D.told result.1) }
 {
     match command {
         Command::Rows { db, .. } => file_outcome(alloc, db, command, disk),
         Command::Check { db } => file_outcome(alloc, db, command, disk),
-        Command::Prepare { .. }
-        | Command::Release { .. }
-        | Command::Run { .. }
-        | Command::Work { .. } => (Outcome::Answered(Reply::NotBuilt), disk),
+        Command::Release { db } => file_outcome(alloc, db, command, disk),
+        Command::Prepare { .. } => (Outcome::Answered(Reply::NotBuilt), disk),
+        Command::Run { .. } => (Outcome::Answered(Reply::NotBuilt), disk),
+        Command::Work { .. } => (Outcome::Answered(Reply::NotBuilt), disk),
     }
 }
 
 /// What there is to print of these words. The disk is given back.
-#[tactic(auto, using(crate::proofs::RefusedLemmas::leaves_same))]
+#[tactic(auto, using(crate::proofs::OwnLemmas::same_for))]
 pub fn carry_out<D: Disk>(alloc: Global, words: &Words, disk: D) -> (Outcome, D)
     requires { D.attached disk ≡ false }
     ensures outcome { IsOutcome words.now (D.told disk) (DiskFails D.Disk disk result.1) result.0 }
     ensures untouched { AskForNone words.now → D.told result.1 ≡ D.told disk }
     ensures made { (c : Command) → AskFor words.now c → IsMadeFor c (D.told disk) (D.told result.1) result.0 }
-    ensures leaves { LeavesPages (D.told disk) (D.told result.1) }
+    ensures leaves { LeavesPagesFor words.now (D.told disk) (D.told result.1) }
 {
     match read_words(alloc, words) {
         Ok(command) => obey(alloc, &command, disk),

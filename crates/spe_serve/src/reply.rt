@@ -41,6 +41,11 @@ pub enum Reply {
     ClosedTable(Closed),
     /// The rows of the table, by ascending rowid.
     Rows(TableRows),
+    /// The free lists are in stock form; so many of so many pages are free.
+    Released {
+        free: u32,
+        pages: u32,
+    },
 }
 
 fn fault_number(fault: HeaderFault) -> u8
@@ -136,6 +141,20 @@ pub fn sound_line(
     Ok(out)
 }
 
+/// The line that says how many pages are free once the free lists are in stock form, and how many there
+/// are.
+pub fn released_line(alloc: Global, free: u32, pages: u32) -> Result<Vec<u8>, AllocError>
+    ensures { IfOk result (λ v. v.items ≡ line (released_counts free pages)) }
+{
+    let mut out = Vec::new(alloc);
+    out.extend_from_slice(b"released free ")?;
+    put_number(&mut out, u64::from(free))?;
+    out.extend_from_slice(b" pages ")?;
+    put_number(&mut out, u64::from(pages))?;
+    out.push(b'\n')?;
+    Ok(out)
+}
+
 /// The line that names the first page that breaks a rule, and the rule.
 pub fn damage_line(alloc: Global, page: u32, rule: u8) -> Result<Vec<u8>, AllocError>
     ensures { IfOk result (λ v. v.items ≡ line (codes "damage " ++ pair page rule)) }
@@ -171,4 +190,4 @@ pub fn closed_line(alloc: Global, why: Closed) -> Result<Vec<u8>, AllocError>
 
 ghost use Rattle.std.specs.Fmt.{decimal};
 ghost use Rattle.spe_render.specs.Values.{line};
-ghost use Rattle.spe_serve.specs.Reply.{pair, reason, counts};
+ghost use Rattle.spe_serve.specs.Reply.{pair, reason, counts, released_counts};

@@ -1,20 +1,24 @@
 //! The top call.
 
 ghost use Rattle.std.specs.Prelude.{◌≡◌, ◌≢◌, ◌⊎◌, [], false, true};
-ghost use Rattle.spe_model.specs.Settled.{LeavesPages};
 ghost use Rattle.spe_render.specs.Values.{table_text};
 ghost use Rattle.spe_words.specs.declared.command.Command.{Command};
 ghost use Rattle.spe_words.specs.Grammar.{AskFor};
 ghost use Rattle.spe_serve.specs.Answer.{is_built};
 ghost use Rattle.spe_serve.specs.Ending.{AnswersStay, DiskFails, Ends, EndsOnFailure, EndsRefused, Prints, PrintsAnswer, PrintsMade, PrintsOutcome, SinkFailsOnce};
+ghost use Rattle.spe_serve.specs.Own.{LeavesPagesFor};
 ghost use Rattle.spe_serve.specs.Made.{IsMadeAt, IsMadeOf, MakesAll, MakesPart, Settles};
 ghost use Rattle.spe_serve.specs.Reply.{AskForNone};
 
 use crate::outcome::{Outcome, carry_out};
-use crate::reply::{Reply, closed_line, corrupt_line, damage_line, refusal_line, sound_line};
+use crate::reply::{
+    Reply, closed_line, corrupt_line, damage_line, refusal_line, released_line, sound_line,
+};
+use spe_crash::recovered_pages;
 use spe_disk::{Disk, Failed, Gate, Scripts, Sink, put_all};
 use spe_model::{Commits, TableRows, Words};
 use spe_render::print_table;
+use spe_verdict::{legal_law, verdict_law};
 use std::alloc::{AllocError, Global};
 use std::sync::Wait;
 use std::thread::Threads;
@@ -90,6 +94,7 @@ fn put_answer<W: Sink>(alloc: Global, out: &mut W, reply: &Reply) -> u8
         Reply::Corrupt { page } => put_made(out, corrupt_line(alloc, *page), REFUSED),
         Reply::NoTable => put(out, b"refused no-table\n", REFUSED),
         Reply::ClosedTable(why) => put_made(out, closed_line(alloc, *why), REFUSED),
+        Reply::Released { free, pages } => put_made(out, released_line(alloc, *free, *pages), DONE),
         Reply::Rows(rows) => put_rows(out, rows),
     }
 }
@@ -111,7 +116,7 @@ fn run<D: Disk, W: Sink>(alloc: Global, words: &Words, disk: D, out: &mut W) -> 
     ensures ends { Ends W.Sink out.old out.new words.now (D.told disk) (DiskFails D.Disk disk result.1) (IsMadeOf words.now (D.told disk) (D.told result.1)) result.0 }
     ensures untouched { AskForNone words.now → D.told result.1 ≡ D.told disk }
     ensures made { (c : Command) → AskFor words.now c → IsMadeAt c (D.told disk) (D.told result.1) result.0 }
-    ensures leaves { LeavesPages (D.told disk) (D.told result.1) }
+    ensures leaves { LeavesPagesFor words.now (D.told disk) (D.told result.1) }
 {
     let (outcome, disk) = carry_out(alloc, words, disk);
     let status = put_outcome(alloc, out, &outcome);
@@ -121,9 +126,11 @@ fn run<D: Disk, W: Sink>(alloc: Global, words: &Words, disk: D, out: &mut W) -> 
 /// Does all that the program does with the words of its command line, the program's own name left
 /// out.
 ///
-/// So far two commands are built. Both roll back what hot journals there are, and then try whether the
+/// So far three commands are built. All roll back what hot journals there are, and then try whether the
 /// pages are sound. `check DATABASE` prints the verdict; `rows DATABASE TABLE` prints the rows of an
 /// open table, and refuses damaged pages, a table that there is not, and a closed one, in this order.
+/// `release DATABASE` puts the free lists back in stock form, and refuses a database that is not in
+/// server form, of which it rolls back nothing, and then damaged pages.
 /// Other commands are answered as not built, and their database is not looked at. Words that are no
 /// command are refused before all else.
 pub fn spe<R: Threads + Wait + Sync, D: Disk + Send, C: Scripts, W: Sink, G: Gate + Sync>(
@@ -149,16 +156,21 @@ pub fn spe<R: Threads + Wait + Sync, D: Disk + Send, C: Scripts, W: Sink, G: Gat
     ensures sink { EndsOnFailure W.Sink out.old out.new result.0.status }
 
     // The operations that are added are a part of the command's, which are recovery's and then its own; with an
-    // answer they are all of them, and then the file holds its pages and no journal has bytes.
+    // answer they are all of them, and then the file holds the pages that the command leaves, and no journal has bytes.
     ensures untouched { AskForNone words → D.told result.1 ≡ D.told disk }
     ensures part { (c : Command) → AskFor words c → MakesPart c (D.told disk) (D.told result.1) }
     ensures made { result.0.status ≢ 3 → result.0.status ≢ 4 → (c : Command) → AskFor words c → MakesAll c (D.told disk) (D.told result.1) }
-    ensures settled { result.0.status ≢ 3 → result.0.status ≢ 4 → (c : Command) → AskFor words c → is_built c ≡ true → Settles (D.told disk) (D.told result.1) }
+    ensures settled { result.0.status ≢ 3 → result.0.status ≢ 4 → (c : Command) → AskFor words c → is_built c ≡ true → Settles c (D.told disk) (D.told result.1) }
 
-    // Of what a crash leaves of it the recovered pages are as before, and a right answer stays right.
-    ensures leaves { LeavesPages (D.told disk) (D.told result.1) }
+    // Of what a crash leaves of it the recovered pages are as before, or those after the command's whole transaction. A
+    // right answer stays right, but for one that tells of a transaction, and so do the rows of each table.
+    ensures leaves { LeavesPagesFor words (D.told disk) (D.told result.1) }
     ensures crash { AnswersStay words (D.told disk) (D.told result.1) }
 {
+    // The laws that the clause on answers rests on.
+    recovered_pages();
+    legal_law();
+    verdict_law();
     let (status, disk) = run(alloc, &words, disk, out);
     let order = Commits::new(Vec::new(alloc));
     (Finished { status, order }, disk)

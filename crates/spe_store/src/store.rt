@@ -9,17 +9,20 @@ use spe_disk::{Disk, Failed};
 use spe_model::{Commits, Recovered};
 use std::alloc::Global;
 use std::marker::{Model, PhantomData};
+use thiserror::Error;
 
 /// Why a store was not opened.
-#[derive(Clone, Copy, Debug, PartialEq, Eq)]
+#[derive(Clone, Copy, Debug, PartialEq, Eq, Error)]
 pub enum OpenWhy {
     /// The disk failed while the journals were made.
+    #[error("the disk failed while the journals were made")]
     Disk,
     /// There is no memory left.
+    #[error("out of memory")]
     Memory,
 }
 
-/// A store was not opened. The disk is given back.
+/// A store was not opened, and why. The disk is given back, so this is no error by itself: `why` is.
 #[derive(Drop)]
 pub struct OpenFault<D: Disk> {
     pub disk: D,

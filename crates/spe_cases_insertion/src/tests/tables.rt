@@ -121,7 +121,7 @@ impl Table {
 }
 
 // An empty leaf on a new page, beside page 1.
-fn start(alloc: Global, space: &mut MapSpace) -> Result<u32, TreeFault>
+pub(crate) fn start(alloc: Global, space: &mut MapSpace) -> Result<u32, TreeFault>
     requires { map_refusal space.old ≡ None }
     ensures { OnOk result (map_refusal space.new ≡ None) }
 {
@@ -209,13 +209,13 @@ fn rows_of(alloc: Global, space: &mut MapSpace, table: &Table) -> Result<Answer,
 }
 
 #[tactic(auto, unfolding(spe_model::specs::Header::is_page_size))]
-fn space_of(alloc: Global, page_size: u32) -> Result<MapSpace, AllocError>
+pub(crate) fn space_of(alloc: Global, page_size: u32) -> Result<MapSpace, AllocError>
     ensures { IfOk result (λ s. map_refusal s ≡ None) }
 {
     match page_size {
         4096 => MapSpace::new(alloc, 4096, 1, 10000),
         65536 => MapSpace::new(alloc, 65536, 1, 1000),
-        _ => MapSpace::new(alloc, 512, 1, 10000),
+        _ => MapSpace::new(alloc, 512, 1, 40000),
     }
 }
 

@@ -40,6 +40,18 @@ pub fn lay_all(file: &mut [u8], patches: &[Patch]) {
     }
 }
 
+/// Lays numbers from the first to below the last over a file.
+pub fn lay_numbers(file: &mut [u8], at: usize, first: u32, last: u32) {
+    for number in first..last {
+        let place = number.wrapping_sub(first) as usize;
+        lay(
+            file,
+            at.wrapping_add(place.wrapping_mul(4)),
+            &number.to_be_bytes(),
+        );
+    }
+}
+
 /// A file of so many pages with these bytes on them.
 pub fn file_of(alloc: Global, pages: usize, patches: &[Patch]) -> Result<Vec<u8>, AllocError> {
     let mut file = vec![in alloc; 0u8; pages.wrapping_mul(PAGE)]?;
@@ -59,7 +71,7 @@ pub fn disk_of(alloc: Global, file: &[u8], op: u64, made: bool) -> Result<MemDis
         ops: Numbers::new(ops),
         made,
     };
-    let mut disk = MemDisk::new(alloc, 1 << 16, 64, faults)?;
+    let mut disk = MemDisk::new(alloc, 1 << 17, 64, faults)?;
     let _ = disk.load(FileNo::Database, file);
     Ok(disk)
 }

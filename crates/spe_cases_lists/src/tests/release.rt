@@ -82,7 +82,7 @@ fn after(alloc: Global, case: &Case) -> Result<Vec<u8>, AllocError> {
 }
 
 // Attaches a disk and recovers it.
-fn recovered(alloc: Global, disk: &mut MemDisk) -> Result<Recovered, RecoverFault>
+pub fn recovered(alloc: Global, disk: &mut MemDisk) -> Result<Recovered, RecoverFault>
     requires { is_attached disk.old ≡ false }
     ensures { is_attached disk.new ≡ true }
 {
@@ -106,7 +106,7 @@ fn released(alloc: Global, disk: &mut MemDisk) -> Result<u32, ConvertFault>
 }
 
 // The file of a disk has just these bytes.
-fn has_file(alloc: Global, disk: &mut MemDisk, wanted: &[u8]) -> Result<bool, AllocError>
+pub fn has_file(alloc: Global, disk: &mut MemDisk, wanted: &[u8]) -> Result<bool, AllocError>
     requires { is_attached disk.old ≡ true }
 {
     let mut found = vec![in alloc; 0u8; wanted.len()]?;

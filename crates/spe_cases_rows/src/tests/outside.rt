@@ -15,7 +15,7 @@ use std::test::Fail;
 use std::thread::Threads;
 
 // Words, and what is printed of them, though the first reading call would fail: the disk is not asked.
-static WORDS: [(&[&str], u8, &str); 19] = [
+static WORDS: [(&[&str], u8, &str); 18] = [
     (&[], 1, "refused words\n"),
     (&["rows"], 1, "refused words\n"),
     (&["rows", "people.db"], 1, "refused words\n"),
@@ -41,7 +41,6 @@ static WORDS: [(&[&str], u8, &str); 19] = [
     (&["check", "d.db", "--workers=1"], 1, "refused words\n"),
     // commands to come
     (&["prepare", "b.db", "2"], 2, "refused not-built\n"),
-    (&["release", "b.db"], 2, "refused not-built\n"),
     (&["run", "b.db", "s"], 2, "refused not-built\n"),
     (&["work", "b.db", "1", "100"], 2, "refused not-built\n"),
 ];

@@ -11,7 +11,7 @@ use crate::tests::steps::Answer::{self, Counted, Refused, Rows};
 use crate::tests::steps::Command;
 use crate::tests::steps::Field::{Int, Null, Text, Zeros};
 use spe_catalog::read_catalog;
-use spe_exec::run;
+use spe_exec::read;
 use spe_model::{Refusal, Reply, Statement, TxKind};
 use spe_parse::parse;
 use spe_slow::SlowDb;
@@ -196,7 +196,7 @@ fn reply_over(
     let catalog = read_catalog(alloc, space)?;
     match statement {
         Statement::Select { .. } | Statement::Count { .. } => {
-            run(alloc, space, &catalog, statement, kind).map(Some)
+            read(alloc, space, &catalog, statement, kind).map(Some)
         }
         _ => Ok(None),
     }

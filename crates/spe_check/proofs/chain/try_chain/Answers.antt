@@ -7,7 +7,7 @@ pub returns-in-Err-clause-tried : goal.returns-in-Err-clause-tried
 returns-in-Err-clause-tried g c = λ usable pages shows.
     let now = shows_before g.S.Pages c.links.space c.try_link.new.space usable pages c.in-Err.ensures.walked.reads shows in
     let size = now.used ∙ c.links.invariant.walked.reads.used in (
-      along_halt usable pages c.args.met.now c.links.met c.try_link.new.met c.args.holder c.args.first c.args.bytes c.args.wanted c.args.out.now.items c.links.out.items
+      along_halt usable pages c.args.walk.now.met c.links.walk.met c.try_link.new.walk.met c.args.holder c.args.first c.args.bytes c.args.wanted c.args.walk.now.payload.items c.links.walk.payload.items
           c.links.at c.links.page c.links.left c.in-Err.halt (omega (arith, size, c.usable-usable.ensures.value, c.usable-usable.ensures.range.0)) c.links-test.true c.links.invariant.walked.pages
           (c.links.invariant.along usable pages now) (c.in-Err.ensures.tried usable pages shows).0,
       tt,
@@ -15,14 +15,13 @@ returns-in-Err-clause-tried g c = λ usable pages shows.
 
 pub links-preserved : goal.links-preserved
 links-preserved g c = record {
-  walked = walked_both g.S.Pages c.args.space.now c.links.space c.try_link.new.space c.args.met.now c.links.met c.try_link.new.met c.links.invariant.walked c.in-Ok.ensures.walked;
+  walked = walked_both g.S.Pages c.args.space.now c.links.space c.try_link.new.space c.args.walk.now.met c.links.walk.met c.try_link.new.walk.met c.links.invariant.walked c.in-Ok.ensures.walked;
   refusal = c.in-Ok.ensures.refusal ∙ c.links.invariant.refusal;
-  buf = omega (arith, c.try_link.auto.buf, c.links.invariant.buf);
   along = λ usable pages shows.
       let now = shows_before g.S.Pages c.links.space c.try_link.new.space usable pages c.in-Ok.ensures.walked.reads shows in
       let size = now.used ∙ c.links.invariant.walked.reads.used in
       let tried = c.in-Ok.ensures.tried usable pages shows in
-      along_next usable pages c.args.met.now c.links.met c.try_link.new.met c.args.holder c.args.first c.args.bytes c.args.wanted c.args.out.now.items c.links.out.items c.try_link.new.out.items
+      along_next usable pages c.args.walk.now.met c.links.walk.met c.try_link.new.walk.met c.args.holder c.args.first c.args.bytes c.args.wanted c.args.walk.now.payload.items c.links.walk.payload.items c.try_link.new.walk.payload.items
       c.links.at c.links.page c.links.left c.min-here.result c.in-Ok.next (omega (arith, size, c.usable-usable.ensures.value, c.usable-usable.ensures.range.0)) c.links-test.true
       (omega (arith, c.min-here.ensures, c.from.ensures, c.usable-usable.ensures.value, size)) c.links.invariant.walked.pages (c.links.invariant.along usable pages now) tried.0 tried.1.0 tried.1.1;
 }
@@ -30,7 +29,7 @@ links-preserved g c = record {
 pub returns-clause-tried : goal.returns-clause-tried
 returns-clause-tried g c = λ usable pages shows.
     let size = shows.used ∙ c.links.invariant.walked.reads.used in
-    along_end usable pages c.args.met.now c.links.met c.args.holder c.args.first c.args.bytes c.args.wanted c.args.out.now.items c.links.out.items
+    along_end usable pages c.args.walk.now.met c.links.walk.met c.args.holder c.args.first c.args.bytes c.args.wanted c.args.walk.now.payload.items c.links.walk.payload.items
     c.links.at c.links.page c.links.left _ (omega (arith, size, c.usable-usable.ensures.value, c.usable-usable.ensures.range.0)) c.links-test.false c.links.invariant.walked.pages
     (c.links.invariant.along usable pages shows) (c.try_none.ensures.tried _ _)
 

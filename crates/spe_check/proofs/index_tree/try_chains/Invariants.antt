@@ -7,10 +7,9 @@ use Rattle.spe_check.proofs.index_tree.try_chains.Given as goal
 
 abbrev pub invariant-cells : goal.invariant-cells
 invariant-cells g l = record {
-  walked : Walked g.S.Pages l.fn.space l.space l.fn.met l.met;
+  walked : Walked g.S.Pages l.fn.space l.space l.fn.walk.met l.walk.met;
   refusal : g.S.Pages.refusal l.space ≡ g.S.Pages.refusal l.fn.space;
-  buf : length l.buf ≡ g.S.Pages.size l.fn.space;
-  led : Each g.S.Pages l.space (λ usable pages. Leads l.fn.met.pages (has_met l.fn.met) (chains_marks usable pages l.page l.cells) (has_met l.met) (chains_marks usable pages l.page l.left));
+  led : Each g.S.Pages l.space (λ usable pages. Leads l.fn.walk.met.pages (has_met l.fn.walk.met) (chains_marks usable pages l.page l.cells) (has_met l.walk.met) (chains_marks usable pages l.page l.left));
 }
 
 abbrev pub decreases-cells : goal.decreases-cells

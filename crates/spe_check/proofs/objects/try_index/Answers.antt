@@ -8,12 +8,12 @@ use Rattle.spe_check.proofs.objects.try_index.Goals as goal
 
 pub returns-in-Ok-clause-tried : goal.returns-in-Ok-clause-tried
 returns-in-Ok-clause-tried g c = λ usable pages shows holder is.
-    let P : ℕ → Type 0 = λ n. Tries c.args.met.now.pages (has_met c.args.met.now) (has_met c.walk_index_from.new.met)
+    let P : ℕ → Type 0 = λ n. Tries c.args.walk.now.met.pages (has_met c.args.walk.now.met) (has_met c.walk_index_from.new.walk.met)
     (behind_read (index_marks usable pages (levels_at_leaf usable pages n c.args.root) n holder c.args.root)) (the_ok ℕ 0) in
     (subst P c.tree_levels-levels.ensures (c.in-Ok.ensures.tried usable pages shows (levels_at_leaf usable pages c.tree_levels-levels.result c.args.root) holder is refl).0, refl)
 
-pub returns-clause-tried : goal.returns-clause-tried
-returns-clause-tried g c = λ usable pages shows holder is.
-    let P : ℕ → Type 0 = λ n. Tries c.args.met.now.pages (has_met c.args.met.now) (has_met c.walk_index_from.new.met)
+pub returns-in-Err-clause-tried : goal.returns-in-Err-clause-tried
+returns-in-Err-clause-tried g c = λ usable pages shows holder is.
+    let P : ℕ → Type 0 = λ n. Tries c.args.walk.now.met.pages (has_met c.args.walk.now.met) (has_met c.walk_index_from.new.walk.met)
     (behind_read (index_marks usable pages (levels_at_leaf usable pages n c.args.root) n holder c.args.root)) (the_err ℕ c.in-Err.halt) in
     (subst P c.tree_levels-levels.ensures (c.in-Err.ensures.tried usable pages shows (levels_at_leaf usable pages c.tree_levels-levels.result c.args.root) holder is refl).0, tt)

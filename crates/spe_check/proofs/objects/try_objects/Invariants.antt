@@ -7,11 +7,10 @@ use Rattle.spe_check.proofs.objects.try_objects.Given as goal
 
 abbrev pub invariant-objects : goal.invariant-objects
 invariant-objects g l = record {
-  walked : Walked g.S.Pages l.fn.space l.space l.fn.met l.met;
+  walked : Walked g.S.Pages l.fn.space l.space l.fn.walk.met l.walk.met;
   refusal : g.S.Pages.refusal l.space ≡ g.S.Pages.refusal l.fn.space;
-  buf : length l.buf ≡ g.S.Pages.size l.fn.space;
   few : l.rows ≤ 18446744073709551615;
-  tried : Each g.S.Pages l.space (λ usable pages. rows_in l.placed ≡ schema_rows usable pages → IsTried usable pages l.fn.met l.met l.placed l.left l.rows);
+  tried : Each g.S.Pages l.space (λ usable pages. rows_in l.placed ≡ schema_rows usable pages → IsTried usable pages l.fn.walk.met l.walk.met l.placed l.left l.rows);
 }
 
 abbrev pub decreases-objects : goal.decreases-objects

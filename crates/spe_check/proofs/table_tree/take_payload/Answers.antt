@@ -14,10 +14,10 @@ pub returns-clause-tried : goal.returns-clause-tried
 returns-clause-tried g c = λ usable pages shows.
     let cell = cell_seen c.args.parts.now in
     let P : ℕ → Type 0 = λ n.
-    Tries c.args.met.now.pages (has_met c.args.met.now) (has_met c.try_chain.new.met) (chain_marks pages (links usable n) c.args.page cell.chain) c.try_chain.result
-    × OnOk c.try_chain.result (c.try_chain.new.out.items ≡ kept_of c.args.wanted c.begin.new.payload.items (chain_bytes usable pages n cell.chain)) in
+    Tries c.args.walk.now.met.pages (has_met c.args.walk.now.met) (has_met c.try_chain.new.walk.met) (chain_marks pages (links usable n) c.args.page cell.chain) c.try_chain.result
+    × OnOk c.try_chain.result (c.try_chain.new.walk.payload.items ≡ kept_of c.args.wanted c.begin.new.payload.items (chain_bytes usable pages n cell.chain)) in
     let tried = subst P c.rest_in.ensures (c.try_chain.ensures.tried usable pages shows) in
     let bytes = chain_bytes usable pages (rest_of cell) cell.chain in (
       tried.0,
-      on_ok_weaker c.try_chain.result (payload_taken c.args.wanted c.try_chain.new.out.items c.begin.new.payload.items cell.local bytes c.in_ok-begin.ensures) tried.1,
+      on_ok_weaker c.try_chain.result (payload_taken c.args.wanted c.try_chain.new.walk.payload.items c.begin.new.payload.items cell.local bytes c.in_ok-begin.ensures) tried.1,
     )

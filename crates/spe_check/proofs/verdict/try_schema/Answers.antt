@@ -10,12 +10,12 @@ use Rattle.spe_check.proofs.verdict.try_schema.Goals as goal
 
 pub returns-in-Ok-clause-tried : goal.returns-in-Ok-clause-tried
 returns-in-Ok-clause-tried g c = λ usable pages shows.
-    let found = schema_tried usable pages c.args.met.now c.walk_table.new.met c.tree_levels-levels.result c.new-rows.result.placed.items c.walk_table.new.visitor.placed.items (the_ok ℕ c.in-Ok._level)
+    let found = schema_tried usable pages c.args.walk.now.met c.walk_table.new.walk.met c.tree_levels-levels.result c.new-rows.result.placed.items c.walk_table.new.visitor.placed.items (the_ok ℕ c.in-Ok._level)
     c.tree_levels-levels.ensures c.new-rows.ensures (c.in-Ok.ensures.tried usable pages shows) in
     (found.0, c.into_placed.ensures ∙ found.1)
 
 pub returns-in-Err-clause-tried : goal.returns-in-Err-clause-tried
 returns-in-Err-clause-tried g c = λ usable pages shows.
-    let found = schema_tried usable pages c.args.met.now c.walk_table.new.met c.tree_levels-levels.result c.new-rows.result.placed.items c.new-rows.result.placed.items (the_err ℕ c.in-Err.halt)
+    let found = schema_tried usable pages c.args.walk.now.met c.walk_table.new.walk.met c.tree_levels-levels.result c.new-rows.result.placed.items c.new-rows.result.placed.items (the_err ℕ c.in-Err.halt)
     c.tree_levels-levels.ensures c.new-rows.ensures (c.in-Err.ensures.tried usable pages shows) in
-    (halts_same ℕ (Vec (ℕ × SchemaRow) Global) c.args.met.now.pages (has_met c.args.met.now) (has_met c.walk_table.new.met) (schema_tree usable pages) c.in-Err.halt found.0, tt)
+    (halts_same ℕ (Vec (ℕ × SchemaRow) Global) c.args.walk.now.met.pages (has_met c.args.walk.now.met) (has_met c.walk_table.new.walk.met) (schema_tree usable pages) c.in-Err.halt found.0, tt)

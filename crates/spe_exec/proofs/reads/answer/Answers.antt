@@ -9,5 +9,5 @@ returns-in-Some-clause-answer g c = λ pages agrees rows holds.
 
 pub returns-in-None-clause-answer : goal.returns-in-None-clause-answer
 returns-in-None-clause-answer g c = λ pages agrees rows holds.
-    answer_open (g.S.Pages.used c.args.space.now) (sight g.S.Pages c.args.space.now pages) c.args.entry.now c.args.statement.now rows c.read.result c.requires.reads
-    (sym c.rowless_refusal.ensures ∙ c.in-None.is) holds (λ of. c.read.ensures.answer pages agrees rows of)
+    answer_open (g.S.Pages.used c.args.space.now) (sight g.S.Pages c.args.space.now pages) c.args.entry.now c.args.statement.now rows c.read_rows.result c.requires.reads
+    (sym c.rowless_refusal.ensures ∙ c.in-None.is) holds (λ of. c.read_rows.ensures.answer pages agrees rows of)

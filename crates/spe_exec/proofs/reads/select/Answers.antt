@@ -1,4 +1,4 @@
-use Rattle.std.proofs.Common.{ℕ, ℤ, List, ap, ◌∙◌}
+use Rattle.std.proofs.Common.{List, ap, ◌∙◌}
 use Rattle.spe_model.specs.declared.reply.Reply.{Reply}
 use Rattle.spe_model.specs.declared.reply.Reply.TheVariants as replies
 use Rattle.spe_space.specs.Calls.{sight}

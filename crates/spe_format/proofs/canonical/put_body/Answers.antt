@@ -1,6 +1,5 @@
-use Rattle.std.proofs.Common.{arith, sym, ap, length}
-use Rattle.spe_format.proofs.SpliceLemmas.{length-splice}
-use Rattle.spe_format.proofs.CanonicalLemmas.{need, need_step, body_step, body_done}
+use Rattle.std.proofs.Common.{arith}
+use Rattle.spe_format.proofs.CanonicalLemmas.{need_step, body_step, body_done}
 use Rattle.spe_format.proofs.canonical.put_body.Goals as goal
 
 pub loop-left-preserved : goal.loop-left-preserved

@@ -1,4 +1,4 @@
-use Rattle.std.proofs.Common.{arith, ◌+◌, length, ap}
+use Rattle.std.proofs.Common.{arith, length, ap}
 use Rattle.spe_format.specs.Canonical.{left_bytes, payload_bytes, key_bytes, chain_bytes}
 use Rattle.spe_format.proofs.SpliceLemmas.{five_parts}
 use Rattle.spe_format.proofs.canonical.put_cell.Goals as goal

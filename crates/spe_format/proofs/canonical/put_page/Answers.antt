@@ -1,7 +1,5 @@
-use Rattle.std.proofs.Common.{arith, ◌≡◌, ◌≤◌, ◌∙◌}
-use Rattle.spe_format.specs.Canonical.{used, header_bytes, body_bytes}
 use Rattle.spe_format.proofs.ReadBackLemmas.{page_put, written_reads}
-use Rattle.spe_format.proofs.CanonicalLemmas.{header_length, room_left}
+use Rattle.spe_format.proofs.CanonicalLemmas.{room_left}
 use Rattle.spe_format.proofs.canonical.put_page.Goals as goal
 
 pub returns-clause-bytes : goal.returns-clause-bytes

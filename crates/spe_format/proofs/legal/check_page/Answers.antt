@@ -1,7 +1,7 @@
 use Rattle.std.proofs.Common.{◌∙◌, ◌+◌, ◌*◌, length, sym, subst}
 use Rattle.std.specs.Prelude.{slice_range}
 use Rattle.spe_model.specs.Page.{numbers}
-use Rattle.spe_format.specs.Answers.{Gives}
+use Rattle.spe_format.specs.Answers.{GivesPage}
 use Rattle.spe_format.proofs.LegalLemmas.{legality_page}
 use Rattle.spe_format.proofs.PageLemmas.{within_zero}
 use Rattle.spe_format.proofs.legal.check_page.Goals as goal
@@ -14,7 +14,7 @@ check_cells-requires-clause-within c =
 
 pub returns : goal.returns
 returns c =
-    subst (Gives c.check_cells.result)
+    subst (GivesPage c.check_cells.result)
     (sym
     (legality_page c.in-Some.kind c.args.page.now c.args.at c.array_start_of-start.result c.from.result (sym c.kind_named.ensures ∙ c.in-Some.is) c.array_start_of-start.ensures
     (c.from.ensures ∙ c.u16_of.ensures) c.if-end-page.false (sym c.are_within.ensures ∙ c.if-not-are_within.false)))

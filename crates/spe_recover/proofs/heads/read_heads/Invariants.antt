@@ -1,5 +1,5 @@
 use Rattle.std.proofs.Common.{◌≡◌, ◌≤◌, ◌-◌, length, true}
-use Rattle.spe_recover.specs.Told.{IfTold}
+use Rattle.spe_disk.specs.Added.{IfTold}
 use Rattle.spe_recover.proofs.HeadLemmas.{AreFirst}
 use Rattle.spe_recover.proofs.heads.read_heads.Given as goal
 

@@ -1,6 +1,6 @@
 use Rattle.std.proofs.Common.{refl, subst, ℕ, sym}
 use Rattle.spe_recover.specs.Recovered.{AreHotBits}
-use Rattle.spe_recover.specs.Told.{IfTold}
+use Rattle.spe_disk.specs.Added.{IfTold}
 use Rattle.spe_recover.proofs.RecoveredLemmas.{found_rolled}
 use Rattle.spe_recover.proofs.recovery.roll_back.Goals as goal
 

@@ -1,6 +1,6 @@
 use Rattle.std.proofs.Common.{◌≡◌, ◌≤◌, ◌+◌, ◌*◌, ◌-◌, ◌^◌, length, true}
 use Rattle.spe_recover.specs.Restored.{Stays}
-use Rattle.spe_recover.specs.Told.{IfTold}
+use Rattle.spe_disk.specs.Added.{IfTold}
 use Rattle.spe_recover.proofs.LeftLemmas.{HasJournalsLeft}
 use Rattle.spe_recover.proofs.TurnLemmas.{AreDue}
 use Rattle.spe_recover.proofs.restore.restore_all.Given as goal

@@ -1,6 +1,6 @@
 use Rattle.std.proofs.Common.{◌≡◌, ◌≤◌, ◌+◌, ◌*◌, ◌-◌, ◌^◌, length, true}
 use Rattle.spe_recover.specs.Restored.{Stays}
-use Rattle.spe_recover.specs.Told.{IfTold}
+use Rattle.spe_disk.specs.Added.{IfTold}
 use Rattle.spe_recover.proofs.LeftLemmas.{HasRecordsLeft}
 use Rattle.spe_recover.proofs.TurnLemmas.{IsDue}
 use Rattle.spe_recover.proofs.restore.restore_records.Given as goal

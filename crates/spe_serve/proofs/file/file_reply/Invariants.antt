@@ -1,4 +1,4 @@
 use Rattle.spe_serve.proofs.file.file_reply.Given as goal
 
-abbrev pub ghosts-pages_reply : goal.ghosts-pages_reply
-ghosts-pages_reply g a = record { told = g.D.Disk.told a.disk; faults = g.D.Disk.read_faults a.disk }
+abbrev pub ghosts-recovered_files : goal.ghosts-recovered_files
+ghosts-recovered_files g a = record { ops = g.D.Disk.op_faults a.disk; told = g.D.Disk.told a.disk }

@@ -1,13 +1,16 @@
-use Rattle.spe_serve.proofs.RefusedLemmas.{leaves_same}
 use Rattle.spe_serve.proofs.OutcomeLemmas.{is_outcome}
 use Rattle.spe_serve.proofs.MadeLemmas.{absent_for, attached_for, never_attached}
+use Rattle.spe_serve.proofs.OwnLemmas.{attached_leaves, same_of}
 use Rattle.spe_serve.proofs.outcome.file_outcome.Goals as goal
 
+pub returns-in-Ok-true-clause-leaves : goal.returns-in-Ok-true-clause-leaves
+returns-in-Ok-true-clause-leaves g c = attached_leaves c.args.command.now (g.D.Disk.told c.args.disk) _ _ c.attach.ensures.same c.file_reply-reply.ensures.leaves
+
 pub returns-in-Ok-false-clause-leaves : goal.returns-in-Ok-false-clause-leaves
-returns-in-Ok-false-clause-leaves g c = rw c.attach.ensures.same (leaves_same (g.D.Disk.told c.args.disk))
+returns-in-Ok-false-clause-leaves g c = same_of c.args.command.now (g.D.Disk.told c.args.disk) _ c.attach.ensures.same
 
 pub returns-in-Err-clause-leaves : goal.returns-in-Err-clause-leaves
-returns-in-Err-clause-leaves g c = rw c.attach.ensures.same (leaves_same (g.D.Disk.told c.args.disk))
+returns-in-Err-clause-leaves g c = same_of c.args.command.now (g.D.Disk.told c.args.disk) _ c.attach.ensures.same
 
 pub returns-in-Ok-true-clause-made : goal.returns-in-Ok-true-clause-made
 returns-in-Ok-true-clause-made g c =

@@ -1,5 +1,5 @@
 use Rattle.spe_serve.proofs.EndingLemmas.{ends_fault, ends_on_failure, ends_refused, ends_unasked}
-use Rattle.spe_serve.proofs.CrashLemmas.{answers_stay}
+use Rattle.spe_serve.proofs.StayLemmas.{answers_stay}
 use Rattle.spe_serve.proofs.serve.spe.Goals as goal
 
 pub returns-clause-unasked : goal.returns-clause-unasked
@@ -24,4 +24,4 @@ pub returns-clause-settled : goal.returns-clause-settled
 returns-clause-settled g c = λ fault memory k asked built. (c.run-status.ensures.made k asked).settled fault memory built
 
 pub returns-clause-crash : goal.returns-clause-crash
-returns-clause-crash g c = answers_stay c.args.words _ _ c.run-status.ensures.leaves
+returns-clause-crash g c = answers_stay c.args.words _ _ c.recovered_pages.ensures.headed c.legal_law.ensures.complete c.verdict_law.ensures.one c.run-status.ensures.leaves

@@ -1,0 +1,4 @@
+mod files;
+mod real;
+mod release;
+mod run;

@@ -1,0 +1,5 @@
+pub mod Held
+pub mod Admits
+pub mod Given
+pub mod ReadOnly
+pub mod Found
