@@ -115,13 +115,6 @@ byte_cases : (P : Type 0) (read b : ℕ) → (read ≡ 8 → P) → (read ≢ 8 
 byte_cases P read b ninth last more =
     elim (cases_eq read 8) [ inl e ↦ ninth e | inr e ↦ elim (cases_lt b 128) [ inl l ↦ last e l | inr l ↦ more e l ] ]
 
--- one byte below 128 is the number itself
-pub reads_one : (bytes : List ℕ) (d : ℕ) → 1 ≤ length bytes → get_or bytes 0 d < 128 → Some (get_or bytes 0 d, 1) ≡ varint_of bytes
-unfolding varint_of
-reads_one [] d some low = absurd (omega arith)
-reads_one (b ∷ bs) d some low =
-    sym (reads_last 0 0 b bs (omega arith) low ∙ found_same (0 * 128 + b) (0 + 1) b 1 (omega arith) (omega arith))
-
 -- what fewer than nine bytes read as is small
 abbrev IsSmall : ℕ → ℕ → ℕ → Type 0
 IsSmall read v n = (read < n) × (v < 128 ^ n)

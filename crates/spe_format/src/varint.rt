@@ -28,12 +28,18 @@ fn read_long(bytes: &[u8]) -> Option<(u64, usize)>
 /// Reads the varint at the front: its value and its length in bytes, 1 to 9.
 ///
 /// `None` exactly where the bytes end inside it. Spellings longer than need be are read too.
+#[tactic(auto, unfolding(spe_model::specs::Varint::varint_of))]
 pub fn read_varint(bytes: &[u8]) -> Option<(u64, usize)>
     ensures value { result ≡ varint_of bytes.now }
     ensures within { IfSome result (λ found. (0 < found.1) × (found.1 ≤ length bytes.now)) }
 {
     match bytes {
-        [first, ..] if *first < 128 => Some((u64::from(*first), 1)),
+        [a, ..] if *a < 128 => Some((u64::from(*a), 1)),
+        [a, b, ..] if *b < 128 => Some((u64::from(*a - 128) * 128 + u64::from(*b), 2)),
+        [a, b, c, ..] if *c < 128 => Some((
+            u64::from(*a - 128) * 16384 + u64::from(*b - 128) * 128 + u64::from(*c),
+            3,
+        )),
         _ => read_long(bytes),
     }
 }
