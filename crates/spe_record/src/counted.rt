@@ -1,6 +1,6 @@
 //! Records whose values are counted and not made.
 
-ghost use Rattle.std.specs.Prelude.{◌≡◌, ◌<◌};
+ghost use Rattle.std.specs.Prelude.{◌≡◌, ◌<◌, ◌↔◌, IsTrue, IsUtf8};
 ghost use Rattle.std.specs.Option.{option_map};
 ghost use Rattle.spe_model.specs.Record.{is_text, record_of, value_of};
 ghost use Rattle.spe_model.specs.Serial.{is_reserved, types_at};
@@ -23,6 +23,18 @@ pub struct Seen {
     pub texts: bool,
 }
 
+// From this length on blocks of many bytes are faster than single ones.
+const BLOCK: usize = 64;
+
+fn are_utf8(bytes: &[u8]) -> bool
+    ensures { IsTrue result ↔ IsUtf8 bytes.now }
+{
+    if bytes.len() < BLOCK {
+        return str::from_utf8(bytes).is_ok();
+    }
+    simdutf8::is_utf8(bytes)
+}
+
 // The value of a serial type whose bytes these are is no text, or it is UTF-8.
 #[tactic(auto, using(crate::proofs::ValuesLemmas::is_utf8_true, crate::proofs::ValuesLemmas::is_utf8_false), unfolding(spe_model::specs::Record::value_of))]
 fn is_text(kind: u64, bytes: &[u8]) -> bool
@@ -31,10 +43,7 @@ fn is_text(kind: u64, bytes: &[u8]) -> bool
     if kind < 12 || kind % 2 == 0 {
         return true;
     }
-    match str::from_utf8(bytes) {
-        Ok(_) => true,
-        Err(_) => false,
-    }
+    are_utf8(bytes)
 }
 
 fn is_reserved(kind: u64) -> bool
