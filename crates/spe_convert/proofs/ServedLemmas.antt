@@ -143,8 +143,8 @@ module _ (headed : RecoveredAreHeaded) (wholes : QuietIsWhole) (found : Recovere
         free_are = is.free_are;
       }
 
-  pub prepared_are : ((db : Data) (s : StandsFor (usable_of found) found.pages (page_in pages) db) → AreSame free s.listed) → ArePrepared found lists pages free
-  prepared_are all_are = record { ascending = ascends; fits = fits; all = all_are; keep = λ db s. keep db s (all_are db s) }
+  pub prepared_are : names_node (page_in pages 1) ≡ false → ((db : Data) (s : StandsFor (usable_of found) found.pages (page_in pages) db) → AreSame free s.listed) → ArePrepared found lists pages free
+  prepared_are stock all_are = record { ascending = ascends; stock = stock; fits = fits; all = all_are; keep = λ db s. keep db s (all_are db s) }
 
   abbrev pub counted_list : List (List ℕ)
   counted_list = with_count found pages

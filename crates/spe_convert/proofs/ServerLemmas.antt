@@ -1,5 +1,5 @@
 -- The clauses of a preparation, from what its steps did.
-use Rattle.std.proofs.Common.{◌≡◌, ◌∙◌, ℕ, ◌%◌, ◌^◌, ◌≤◌, List, [], ◌++◌, length, sym, ap, subst, append-nil, Option, Some, None, Ok, Err, inl, inr}
+use Rattle.std.proofs.Common.{◌≡◌, ◌∙◌, ℕ, ◌%◌, ◌^◌, ◌≤◌, List, [], ◌++◌, length, refl, sym, ap, subst, append-nil, Option, Some, None, Ok, Err, inl, inr}
 use Rattle.std.proofs.lemmas.List.{append_cancel_left}
 use Rattle.spe_model.specs.declared.recovery.Recovered.{Recovered}
 use Rattle.spe_model.specs.Content.{Content}
@@ -24,15 +24,14 @@ use Rattle.spe_rewrite.specs.Rewrite.{rewrite_of}
 use Rattle.spe_disk.specs.Added.{AddsSome, IfBothTold, IfTold, Makes}
 use Rattle.spe_rewrite.specs.Told.{counted}
 use Rattle.spe_rewrite.specs.Turns.{IsFront, KeepsIdle}
-use Rattle.spe_convert.specs.Prepare.{ArePrepared, IsAllPrepared, IsFullWhere, IsOneOfThree, IsPreparedExactly, IsPartPrepared, PlansServer, Refuses, count_changes, counting as counting_ops, making_and_preparing, prepared, preparing, server_form, serving, with_count}
+use Rattle.spe_convert.specs.Prepare.{ArePrepared, CountKept, IsAllPrepared, IsFullWhere, IsNoneOrPart, IsOneOfThree, IsPreparedExactly, PlansServer, Refuses, count_changes, counting as counting_ops, making_and_preparing, prepared, preparing, server_form, serving, with_count}
 use Rattle.spe_convert.specs.Reading.{Holds, WhereHeld, usable_of}
 use Rattle.spe_convert.specs.Release.{AreFound, AreResting, WhereFound}
-use Rattle.spe_convert.proofs.CutLemmas.{none_cut}
 use Rattle.spe_convert.proofs.CountedLemmas.{count_kept, may_count, rests_again}
 use Rattle.spe_convert.proofs.RestLemmas.{held, page_is}
 use Rattle.spe_convert.proofs.ServedLemmas.{laid_same, may_serve, prepared_are}
 use Rattle.spe_convert.proofs.StagesLemmas.{Staged, rewrite_same, staged_front, staged_on, staged_short}
-use Rattle.spe_convert.proofs.WholeLemmas.{IsMade, adds_both, after_made, idle_found, keeps_all, nothing_cut, resting, trace_or, with_trace}
+use Rattle.spe_convert.proofs.WholeLemmas.{IsMade, adds_both, after_made, idle_found, keeps_all, resting, trace_or, with_trace}
 
 module _ (headed : RecoveredAreHeaded) (wholes : QuietIsWhole) (found : Recovered) (limits : IsWithinLimits found) (lists : ℕ) (one : 1 ≤ lists) (most : lists ≤ 16) where
   abbrev pub ops_by : (made : ℕ) → Content → List Change → List Operation
@@ -94,7 +93,10 @@ module _ (headed : RecoveredAreHeaded) (wholes : QuietIsWhole) (found : Recovere
     second_is = plans.second_are (page_in pages) holds_before
 
     are : ArePrepared found lists pages plans.free
-    are = prepared_are headed wholes found limits lists one most (present h) pages rests_before plans.free plans.ascending plans.fits (plans.all (page_in pages) holds_before)
+    are = prepared_are headed wholes found limits lists one most (present h) pages rests_before plans.free plans.ascending plans.fits (plans.stock (page_in pages) holds_before) (plans.all (page_in pages) holds_before)
+
+    kept : CountKept found pages
+    kept = count_kept headed wholes found limits (present k) pages rests_now
 
     pub first_may : MayRewrite found.page_size found.pages first (present k)
     first_may =
@@ -122,7 +124,7 @@ module _ (headed : RecoveredAreHeaded) (wholes : QuietIsWhole) (found : Recovere
         subst (λ (os : List Operation). Staged (present k) os ops P) ys_are
         (staged_front (present k) (ops_by made (present k) first) ops pages (laid_pages pages (changed first)) P
         (λ now same. inl same)
-        (λ now new. inr (inl (count_kept headed wholes found limits (present k) pages rests_now, subst (Recovers now) list_is new)))
+        (λ now new. inr (inl (subst (Recovers now) list_is new)))
         (f pages rests_now.idle.recovers))
 
     next : present k ≡ after (present h) xs
@@ -130,13 +132,13 @@ module _ (headed : RecoveredAreHeaded) (wholes : QuietIsWhole) (found : Recovere
 
     -- the first transaction may have failed
     pub part_first : (new : Option History) → Stops (Some k) new made first
-        → AddsSome (Some h) new (IsPartPrepared found lists (present h) pages (making_and_preparing found lists (present h) pages))
+        → AddsSome (Some h) new (IsNoneOrPart found lists (present h) pages (making_and_preparing found lists (present h) pages))
     part_first new stops =
         let s = staged_on (present h) (present k) xs (ys ++ zs) stops.made P next staged_none (staged_short (present k) ys zs stops.made P (staged_first stops.made stops.holds)) in
         record {
           made = xs ++ stops.made;
           adds = adds_both h k new xs stops.made m.adds stops.adds;
-          holds = record { free = plans.free; front = s.front; covered = s.covered; stops = s.stops };
+          holds = inr (record { free = plans.free; prepared_are = are; count_kept = kept; front = s.front; covered = s.covered; stops = s.stops });
         }
 
     -- the state once the first transaction was made
@@ -183,8 +185,8 @@ module _ (headed : RecoveredAreHeaded) (wholes : QuietIsWhole) (found : Recovere
       staged_second ops f =
           subst (λ (os : List Operation). Staged (present l) os ops P) zs_are
           (staged_front (present l) (ops_by now (present l) second) ops (with_count found pages) (laid_pages (with_count found pages) (changed second)) P
-          (λ there same. inr (inl (count_kept headed wholes found limits (present k) pages rests_now, same)))
-          (λ there new. inr (inr (are, subst (Recovers there) list_then new)))
+          (λ there same. inr (inl same))
+          (λ there new. inr (inr (subst (Recovers there) list_then new)))
           (f (with_count found pages) idle_now.recovers))
 
       then_is : present l ≡ after (present k) ys
@@ -192,14 +194,14 @@ module _ (headed : RecoveredAreHeaded) (wholes : QuietIsWhole) (found : Recovere
 
       -- the second transaction may have failed
       pub part_second : (new : Option History) → Stops (Some l) new now second
-          → AddsSome (Some h) new (IsPartPrepared found lists (present h) pages (making_and_preparing found lists (present h) pages))
+          → AddsSome (Some h) new (IsNoneOrPart found lists (present h) pages (making_and_preparing found lists (present h) pages))
       part_second new stops =
           let t = staged_on (present k) (present l) ys zs stops.made P then_is staged_all (staged_second stops.made stops.holds) in
           let s = staged_on (present h) (present k) xs (ys ++ zs) (ys ++ stops.made) P next staged_none t in
           record {
             made = xs ++ (ys ++ stops.made);
             adds = adds_both h k new xs (ys ++ stops.made) m.adds (adds_both k l new ys stops.made adds_first stops.adds);
-            holds = record { free = plans.free; front = s.front; covered = s.covered; stops = s.stops };
+            holds = inr (record { free = plans.free; prepared_are = are; count_kept = kept; front = s.front; covered = s.covered; stops = s.stops });
           }
 
       idle_end : (new : Option History) → IfBothTold (Some l) new (λ content now. (ps : List (List ℕ)) → Recovers content ps → AreIdle found.page_size now (laid_pages ps (changed second)))
@@ -233,43 +235,43 @@ module _ (headed : RecoveredAreHeaded) (wholes : QuietIsWhole) (found : Recovere
 
   -- nothing was done
   pub part_unplanned : (old new : Option History) → new ≡ old
-      → WhereFound old found (λ content pages. AddsSome old new (IsPartPrepared found lists content pages (making_and_preparing found lists content pages)))
+      → WhereFound old found (λ content pages. AddsSome old new (IsNoneOrPart found lists content pages (making_and_preparing found lists content pages)))
   part_unplanned None new same = tt
   part_unplanned (Some h) new same = λ pages is. record {
     made = [];
     adds = same ∙ ap (with_trace h.first) (sym (append-nil h.trace));
-    holds = record {
-      free = [];
-      front = none_cut (making_and_preparing found lists (present h) pages []);
-      covered = tt;
-      stops = λ cut within. inl (nothing_cut (present h) pages cut within is.recovers);
-    };
+    holds = inl refl;
   }
 
   -- not all journals were made
-  pub part_unmade : (old new : Option History) → HasPlaces old
+  pub part_unmade : (old new : Option History) (count : ℕ) (first second : List Change) → HasPlaces old → PlansServer found lists old count first second
       → IfTold old (λ content. AddsSome old new (λ ops. (size : ℕ) (pages : List (List ℕ)) → AreIdle size content pages → KeepsIdle size content (makings (absent_journals content)) ops pages))
-      → WhereFound old found (λ content pages. AddsSome old new (IsPartPrepared found lists content pages (making_and_preparing found lists content pages)))
-  part_unmade None new places stops = tt
-  part_unmade (Some h) new places stops = λ pages is.
+      → WhereFound old found (λ content pages. AddsSome old new (IsNoneOrPart found lists content pages (making_and_preparing found lists content pages)))
+  part_unmade None new count first second places plans stops = tt
+  part_unmade (Some h) new count first second places plans stops = λ pages is.
       let content = present h in
+      let free = plans.free in
+      let rests = resting_first h places pages is in
+      let holds = held headed wholes found limits content pages rests in
+      let are = prepared_are headed wholes found limits lists one most content pages rests free plans.ascending plans.fits (plans.stock (page_in pages) holds) (plans.all (page_in pages) holds) in
+      let kept = count_kept headed wholes found limits content pages rests in
       let keeps = stops.holds found.page_size pages (idle_found headed wholes found limits h pages places is) in
-      let P = IsOneOfThree found lists pages [] in
+      let P = IsOneOfThree found lists pages free in
       let none : Staged content (makings (absent_journals content)) stops.made P =
       record { front = keeps.front; covered = keeps.covered; stops = λ cut within. inl (keeps.stops cut within).recovers } in
-      let s = staged_short content (makings (absent_journals content)) (preparing found lists (counted found.ops (length (absent_journals content))) pages []) stops.made P none in
-      record { made = stops.made; adds = stops.adds; holds = record { free = []; front = s.front; covered = s.covered; stops = s.stops } }
+      let s = staged_short content (makings (absent_journals content)) (preparing found lists (counted found.ops (length (absent_journals content))) pages free) stops.made P none in
+      record { made = stops.made; adds = stops.adds; holds = inr (record { free = free; prepared_are = are; count_kept = kept; front = s.front; covered = s.covered; stops = s.stops }) }
 
   pub part_first_told : (old mid new : Option History) (made count : ℕ) (first second : List Change) → IsMade found old mid made
       → PlansServer found lists old count first second → AreChanges found.page_size first → AreChanges found.page_size second → Stops mid new made first
-      → WhereFound old found (λ content pages. AddsSome old new (IsPartPrepared found lists content pages (making_and_preparing found lists content pages)))
+      → WhereFound old found (λ content pages. AddsSome old new (IsNoneOrPart found lists content pages (making_and_preparing found lists content pages)))
   part_first_told None mid new made count first second m plans a b stops = tt
   part_first_told (Some h) None new made count first second m plans a b stops = let adds = m.adds in absurd cc
   part_first_told (Some h) (Some k) new made count first second m plans a b stops = λ pages is. part_first h k made m pages is count first second plans a b new stops
 
   pub part_second_told : (old mid next new : Option History) (made now count : ℕ) (first second : List Change) → IsMade found old mid made → Rewrote mid next made now first
       → PlansServer found lists old count first second → AreChanges found.page_size first → AreChanges found.page_size second → Stops next new now second
-      → WhereFound old found (λ content pages. AddsSome old new (IsPartPrepared found lists content pages (making_and_preparing found lists content pages)))
+      → WhereFound old found (λ content pages. AddsSome old new (IsNoneOrPart found lists content pages (making_and_preparing found lists content pages)))
   part_second_told None mid next new made now count first second m r plans a b stops = tt
   part_second_told (Some h) None next new made now count first second m r plans a b stops = let adds = m.adds in absurd cc
   part_second_told (Some h) (Some k) None new made now count first second m r plans a b stops = let adds = r.adds in absurd cc

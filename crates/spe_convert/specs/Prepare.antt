@@ -73,10 +73,11 @@ pub record IsServerFor (found : Recovered) (lists : ℕ) (free : List ℕ) (page
   pub lists_are : u32_at (page_in pages (u32_at (page_in pages 1) 32)) 0 ≡ lists
   pub free_are : AreSame (supply found.pages lists free) is.stands.listed
 
--- Numbers that ascend, and are all free pages where the pages stand. There is room for the pages that are added. With these
--- free pages in server form the pages stand for the same database.
+-- Pages in stock form, and numbers that ascend and are all free pages where the pages stand. There is room for the pages that are
+-- added. With these free pages in server form the pages stand for the same database.
 pub record ArePrepared (found : Recovered) (lists : ℕ) (pages : List (List ℕ)) (free : List ℕ) : Type 0 where
   pub ascending : are_ascending 1 found.pages free ≡ true
+  pub stock : names_node (page_in pages 1) ≡ false
   pub fits : is_over found lists free ≡ false
   pub all : (db : Database) (stands : StandsFor (usable_of found) found.pages (page_in pages) db) → AreSame free stands.listed
   pub keep : (db : Database) → StandsFor (usable_of found) found.pages (page_in pages) db → IsServerFor found lists free (prepared found lists pages free) db
@@ -111,20 +112,26 @@ pub record IsAllPrepared (found : Recovered) (lists : ℕ) (pages : List (List �
   pub made : Adds old new (ops free)
   pub idle : IfTold new (λ now. AreIdle found.page_size now (prepared found lists pages free))
 
--- the recovered pages are those before, those with a page count that counts, or those with all free pages in server form
+-- the recovered pages are those before, those with a page count that counts, or those with these free pages in server form
 abbrev pub IsOneOfThree : Recovered → (lists : ℕ) → (pages : List (List ℕ)) → (free : List ℕ) → Content → Type 0
 IsOneOfThree found lists pages free now =
-    Recovers now pages ⊎ (CountKept found pages × Recovers now (with_count found pages)) ⊎ (ArePrepared found lists pages free × Recovers now (prepared found lists pages free))
+    Recovers now pages ⊎ Recovers now (with_count found pages) ⊎ Recovers now (prepared found lists pages free)
 
--- what was made of the operations for some free pages is a beginning of them, and wherever a stop cuts it the recovered
--- pages are one of the three
+-- what was made is a beginning of the operations for all free pages, and wherever a stop cuts it the recovered pages are one
+-- of the three
 pub record IsPartPrepared (found : Recovered) (lists : ℕ) (content : Content) (pages : List (List ℕ)) (ops : List ℕ → List Operation) (made : List Operation) : Type 0 where
   pub free : List ℕ
+  pub prepared_are : ArePrepared found lists pages free
+  pub count_kept : CountKept found pages
   pub front : IsCut (ops free) made
   pub covered : Covered content made
   pub stops : (cut : List Operation) → IsCut made cut → IsOneOfThree found lists pages free (after content cut)
 
--- changes that put all free pages in server form, after which there are so many pages
+-- nothing was made, or such a part
+abbrev pub IsNoneOrPart : Recovered → (lists : ℕ) → Content → List (List ℕ) → (ops : List ℕ → List Operation) → (made : List Operation) → Type 0
+IsNoneOrPart found lists content pages ops made = (made ≡ []) ⊎ IsPartPrepared found lists content pages ops made
+
+-- changes that put all free pages of pages in stock form in server form, after which there are so many pages
 pub record PlansServer (found : Recovered) (lists : ℕ) (told : Option History) (count : ℕ) (first second : List Change) : Type 0 where
   pub free : List ℕ
   pub ascending : are_ascending 1 found.pages free ≡ true
@@ -133,6 +140,7 @@ pub record PlansServer (found : Recovered) (lists : ℕ) (told : Option History)
   pub first_are : WhereHeld told found (λ pages. first ≡ count_changes found.pages pages)
   pub second_are : WhereHeld told found (λ pages. second ≡ prepared_changes found.page_size (usable_of found) found.pages lists free pages)
   pub all : WhereHeld told found (λ pages. (db : Database) (stands : StandsFor (usable_of found) found.pages pages db) → AreSame free stands.listed)
+  pub stock : WhereHeld told found (λ pages. names_node (pages 1) ≡ false)
 
 -- the pages are too many exactly where the pages to be added take the file past its limit; nothing is said where the disk
 -- failed, and so on

@@ -10,7 +10,7 @@ ghost use Rattle.spe_convert.specs.Changes.{counted_page};
 ghost use Rattle.spe_convert.specs.declared.fault.ConvertFault.TheVariants.{Disk, Memory};
 ghost use Rattle.spe_convert.specs.Free.{IsDamage};
 ghost use Rattle.spe_convert.specs.Made.{change_with};
-ghost use Rattle.spe_convert.specs.Prepare.{IsAllPrepared, IsFullWhere, IsPartPrepared, IsPreparedExactly, PlansServer, Refuses, count_changes, making_and_preparing};
+ghost use Rattle.spe_convert.specs.Prepare.{IsAllPrepared, IsFullWhere, IsNoneOrPart, IsPreparedExactly, PlansServer, Refuses, count_changes, making_and_preparing};
 ghost use Rattle.spe_convert.specs.Reading.{HasPlainReading, WhereHeld, usable_of};
 ghost use Rattle.spe_convert.specs.Release.{AreFound, WhereFound};
 
@@ -206,7 +206,7 @@ pub fn prepare<D: Disk>(
     ensures whole { IfOk result (λ count. WhereFound (D.told disk.old) found.now (λ content pages. IsAllPrepared found.now lists pages (making_and_preparing found.now lists content pages) (D.told disk.old) (D.told disk.new) count)) }
 
     // What it leaves, whatever it answers and wherever a stop cuts it.
-    ensures stops { WhereFound (D.told disk.old) found.now (λ content pages. AddsSome (D.told disk.old) (D.told disk.new) (IsPartPrepared found.now lists content pages (making_and_preparing found.now lists content pages))) }
+    ensures stops { WhereFound (D.told disk.old) found.now (λ content pages. AddsSome (D.told disk.old) (D.told disk.new) (IsNoneOrPart found.now lists content pages (making_and_preparing found.now lists content pages))) }
 
     // Why it is refused.
     ensures prepared { WhereFound (D.told disk.old) found.now (λ content pages. IsPreparedExactly result (page_in pages)) }

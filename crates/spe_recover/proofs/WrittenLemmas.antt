@@ -70,13 +70,20 @@ file_same survey holders content end ready ends =
     ap (λ (n : ℕ). file_cut n end) ready.size
     ∙ ap (λ (n : ℕ). file_cut (length (bytes_of content Database)) n) (ends ∙ ap (λ (n : ℕ). survey.pages * n) ready.paged)
 
+-- a disk that tells nothing
+none_done : (first second new : Option History) (ops : Content → List Operation) (made : ℕ) → first ≡ None → Stays first second → Does second new ops made → new ≡ None
+none_done None None new ops made untold still done = done
+none_done None (Some l) new ops made untold still done = absurd cc
+none_done (Some k) second new ops made untold still done = absurd cc
+
 pub all_made : (told first second new : Option History) (survey : Survey) (before after : Holders) (restored cut cleared end : ℕ)
     → IfTold told (IsReady survey before)
     → IfTold told (λ content. Restored survey.page_size survey.pages (hot_from content survey.page_size 0 16) told first before after restored)
     → Stays told first → Does first second (λ content. file_cut survey.size end) cut → end ≡ survey.pages * survey.page_size → Stays first second
     → Does second new (λ content. cuts_from content 0 16) cleared
     → MakesCounted told new (λ content. all_of content survey.pages) (restored + cut + cleared)
-all_made None first second new survey before after restored cut cleared end ready done stays cutting ends still clearing = tt
+all_made None first second new survey before after restored cut cleared end ready done stays cutting ends still clearing =
+    none_done first second new (λ content. cuts_from content 0 16) cleared stays still clearing
 all_made (Some h) None second new survey before after restored cut cleared end ready done stays cutting ends still clearing = absurd stays
 all_made (Some h) (Some k) None new survey before after restored cut cleared end ready done stays cutting ends still clearing = absurd still
 all_made (Some h) (Some k) (Some l) new survey before after restored cut cleared end ready done stays cutting ends still clearing =
@@ -171,13 +178,13 @@ clearing_stopped (Some h) (Some k) (Some l) new survey before after restored cut
 
 pub none_made : (told : Option History) (pages : ℕ) → IfTold told (λ content. false ≡ any_length content 0 16) → MakesCounted told told (λ content. rule_of content pages) 0
 unfolding rule_of
-none_made None pages nothing = tt
+none_made None pages nothing = refl
 none_made (Some h) pages nothing = rw (← nothing) (record { adds = Adds-nothing (Some h); count = refl })
 
 pub some_made : (told new : Option History) (pages made : ℕ) → IfTold told (λ content. true ≡ any_length content 0 16)
     → MakesCounted told new (λ content. all_of content pages) made → MakesCounted told new (λ content. rule_of content pages) made
 unfolding rule_of
-some_made None new pages made some all = tt
+some_made None new pages made some all = all
 some_made (Some h) new pages made some all = rw (← some) all
 
 pub some_stopped : (told new : Option History) (pages : ℕ) → IfTold told (λ content. true ≡ any_length content 0 16)

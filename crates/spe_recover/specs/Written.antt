@@ -1,17 +1,16 @@
 -- Writing all back.
-use Rattle.std.specs.Prelude.{◌≡◌, ℕ, ◌*◌, nat_le, is_some, List, ◌++◌, length, Option}
+use Rattle.std.specs.Prelude.{◌≡◌, ℕ, ◌*◌, nat_le, is_some, List, ◌++◌, length, Option, Some, None}
 use Rattle.std.specs.List.{find}
 use Rattle.std.specs.Ordering.{nat_cmp}
 use Rattle.std.specs.BTreeMap.{get}
 use Rattle.spe_model.specs.declared.file.FileNo.TheVariants.{Database}
 use Rattle.spe_model.specs.Content.{Content, bytes_of}
 use Rattle.spe_model.specs.Recovery.{is_of, all_hot, file_page_size}
-use Rattle.spe_model.specs.Trace.{Operation, History}
+use Rattle.spe_model.specs.Trace.{Operation, History, present}
 use Rattle.spe_disk.specs.Told.{Adds}
 use Rattle.spe_recover.specs.declared.survey.Survey.{Survey}
 use Rattle.spe_recover.specs.Restored.{Holders}
 use Rattle.spe_model.specs.Rollback.{restores, file_cut, cuts_from}
-use Rattle.spe_disk.specs.Added.{IfTold}
 
 -- what writing back rests on
 pub record IsReady (survey : Survey) (holders : Holders) (content : Content) : Type 0 where
@@ -30,5 +29,7 @@ pub record IsMade (old new : Option History) (ops : List Operation) (made : ℕ)
   pub adds : Adds old new ops
   pub count : made ≡ length ops
 
+-- the same of operations that the content before asks for; a disk that did not tell its files does not tell them then
 abbrev pub MakesCounted : Option History → Option History → (Content → List Operation) → ℕ → Type 0
-MakesCounted old new ops made = IfTold old (λ content. IsMade old new (ops content) made)
+MakesCounted None new ops made = new ≡ None
+MakesCounted (Some h) new ops made = IsMade (Some h) new (ops (present h)) made

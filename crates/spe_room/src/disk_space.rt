@@ -36,6 +36,7 @@ pub struct DiskSpace<D: Disk, K: Origin> {
     ghost attached: { D.attached disk ≡ true },
     ghost kept: { D.told disk ≡ K.told },
     ghost counted: { K.faults ≤ D.read_faults disk },
+    ghost unmade: { D.op_faults disk ≡ K.ops },
     ghost caused: { refusal ≡ Some Read → Rose K.faults (D.read_faults disk) },
     ghost missing: { (at number : ℕ) → refusal ≡ Some (PageOut at number) → IsInside pages at → ⊥ },
     ghost own: { KeepsOwn refusal },
@@ -49,6 +50,7 @@ impl<D: Disk, K: Origin> DiskSpace<D, K> {
         requires attached { D.attached disk ≡ true }
         requires told { D.told disk ≡ K.told }
         requires faults { D.read_faults disk ≡ K.faults }
+        requires operations { D.op_faults disk ≡ K.ops }
         ensures size { ⟦<DiskSpace<D, K> as Pages>⟧.size result ≡ found.now.page_size }
         ensures usable { ⟦<DiskSpace<D, K> as Pages>⟧.used result ≡ found.now.page_size - found.now.reserved }
         ensures pages { ⟦<DiskSpace<D, K> as Pages>⟧.count result ≡ found.now.pages }
@@ -67,13 +69,14 @@ impl<D: Disk, K: Origin> DiskSpace<D, K> {
         }
     }
 
-    /// The disk, whose files are as they were. Where the space keeps the refusal Read, its count of
-    /// reading calls that failed has risen; where it keeps PageOut, the page is none of the space's. It
-    /// keeps no other refusal.
+    /// The disk, whose files are as they were, and its count of operations that failed. Where the space
+    /// keeps the refusal Read, its count of reading calls that failed has risen; where it keeps PageOut,
+    /// the page is none of the space's. It keeps no other refusal.
     pub fn into_disk(self) -> D
         ensures told { D.told result ≡ K.told }
         ensures attached { D.attached result ≡ true }
         ensures counted { K.faults ≤ D.read_faults result }
+        ensures operations { D.op_faults result ≡ K.ops }
         ensures caused { ⟦<DiskSpace<D, K> as Pages>⟧.refusal self ≡ Some Read → Rose K.faults (D.read_faults result) }
         ensures missing { (at number : ℕ) → ⟦<DiskSpace<D, K> as Pages>⟧.refusal self ≡ Some (PageOut at number)
             → IsInside (⟦<DiskSpace<D, K> as Pages>⟧.count self) at → ⊥ }

@@ -12,6 +12,9 @@ pub trait Origin {
 
     // How often a reading call had failed.
     ghost faults: { ℕ };
+
+    // How often an operation had failed.
+    ghost ops: { ℕ };
 }
 
 impl Origin for Brand {
@@ -20,4 +23,6 @@ impl Origin for Brand {
     ghost told = { None };
 
     ghost faults = { 0 };
+
+    ghost ops = { 0 };
 }

@@ -1,5 +1,5 @@
 -- How a run of the program ends: what it printed, and its status.
-use Rattle.std.specs.Prelude.{◌≡◌, ℕ, ◌⊎◌, Bool, true, false, not, List, Option, Some, None, Result, Ok, Err, codes}
+use Rattle.std.specs.Prelude.{◌≡◌, ℕ, ◌⊎◌, Bool, true, not, List, Option, Some, None, Result, Ok, Err, codes}
 use Rattle.std.specs.declared.vec.Vec.{Vec}
 use Rattle.std.specs.declared.alloc.Global.{Global}
 use Rattle.std.specs.declared.alloc.AllocError.{AllocError}
@@ -24,7 +24,7 @@ use Rattle.spe_serve.specs.declared.failure.Failure.TheVariants as failures
 use Rattle.spe_serve.specs.declared.outcome.Outcome.{Outcome}
 use Rattle.spe_serve.specs.declared.outcome.Outcome.TheVariants.{Answered, DiskFailed, NoMemory}
 use Rattle.spe_render.specs.Values.{line}
-use Rattle.spe_serve.specs.Reply.{AskForNone, IsAbout, text_of, status_of}
+use Rattle.spe_serve.specs.Reply.{AskForNone, IsAbout, is_done, text_of, status_of}
 use Rattle.spe_serve.specs.Answer.{IsReplyTo, is_built}
 
 -- an answer that is right over the content at attaching, where it is told
@@ -126,14 +126,10 @@ EndsRefused g before now status = (status ≡ 1) ⊎ ((status ≡ 4) ⊎ ((statu
 abbrev pub EndsOnFailure : {W : Type 0} (g : SinkGhosts W) (before now : W) (status : ℕ) → Type 0
 EndsOnFailure g before now status = (g.faults now ≡ g.faults before) ⊎ ((status ≡ 3) × SinkFailsOnce g before now)
 
--- an answer that says that something was done, and what was done is done once
-abbrev pub is_done : Reply → Bool
-is_done (replies.Released free pages) = true
-is_done _ = false
-
 -- an answer that a crash leaves right: all of those that read, and the refusals of those that write
 abbrev pub is_lasting : Command → Reply → Bool
 is_lasting (commands.Release db) reply = not (is_done reply)
+is_lasting (commands.Prepare db lists) reply = not (is_done reply)
 is_lasting _ reply = true
 
 -- a right answer to a command over a content is right over what a crash leaves of these operations

@@ -89,9 +89,11 @@ Settles c old new = IfBothTold old new (IsSettled c)
 abbrev pub AreBeforeOwn : Content → (made : List Operation) → Type 0
 AreBeforeOwn content made = (made ≡ rollback_of content) ⊎ (made ≡ rollback_of content ++ makings (absent_journals (rolled_back content)))
 
--- Where memory ran out all were made or none, or of a command that writes those before its transaction.
+-- Where memory ran out all were made or none, or of `release` those before its transaction. `prepare` has two transactions, and
+-- memory may end between them.
 abbrev pub MakesSome : Command → (old new : Option History) → Type 0
 MakesSome (commands.Release db) old new = (new ≡ old) ⊎ (MakesAll (commands.Release db) old new ⊎ WhereAdded old new AreBeforeOwn)
+MakesSome (commands.Prepare db lists) old new = MakesPart (commands.Prepare db lists) old new
 MakesSome c old new = (new ≡ old) ⊎ MakesAll c old new
 
 -- what is said where there is an answer

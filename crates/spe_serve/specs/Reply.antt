@@ -1,5 +1,5 @@
 -- What the program answers, in words.
-use Rattle.std.specs.Prelude.{◌≡◌, ℕ, List, [], ◌∷◌, ◌++◌, codes}
+use Rattle.std.specs.Prelude.{◌≡◌, ℕ, Bool, true, false, List, [], ◌∷◌, ◌++◌, codes}
 use Rattle.std.specs.Fmt.{decimal}
 use Rattle.spe_model.specs.declared.header.HeaderFault.{HeaderFault}
 use Rattle.spe_model.specs.declared.header.HeaderFault.TheVariants as faults
@@ -47,11 +47,22 @@ IsAboutRelease (replies.Corrupt page) = Unit {0}
 IsAboutRelease (replies.Released free pages) = Unit {0}
 IsAboutRelease _ = ⊥
 
+-- an answer to words that ask for so many free lists in server form
+abbrev pub IsAboutPrepare : (lists : ℕ) → Reply → Type 0
+IsAboutPrepare lists replies.NoDatabase = Unit {0}
+IsAboutPrepare lists (replies.Refused fault) = IsPlain fault
+IsAboutPrepare lists (replies.Corrupt page) = Unit {0}
+IsAboutPrepare lists replies.AlreadyPrepared = Unit {0}
+IsAboutPrepare lists (replies.Full pages) = Unit {0}
+IsAboutPrepare lists (replies.Prepared made pages) = made ≡ lists
+IsAboutPrepare lists _ = ⊥
+
 -- an answer that a command may have
 abbrev pub IsAbout : Command → Reply → Type 0
 IsAbout (commands.Rows db table) reply = IsAboutRows reply
 IsAbout (commands.Check db) reply = IsAboutVerdict reply
 IsAbout (commands.Release db) reply = IsAboutRelease reply
+IsAbout (commands.Prepare db lists) reply = IsAboutPrepare lists reply
 IsAbout _ reply = reply ≡ replies.NotBuilt
 
 -- the words are no command
@@ -98,6 +109,10 @@ counts pages tables rows free =
 abbrev pub released_counts : (free pages : ℕ) → List ℕ
 released_counts free pages = codes "released free " ++ decimal free ++ codes " pages " ++ decimal pages
 
+-- how many free lists there are, and how many pages
+abbrev pub prepared_counts : (lists pages : ℕ) → List ℕ
+prepared_counts lists pages = codes "prepared lists " ++ decimal lists ++ codes " pages " ++ decimal pages
+
 abbrev pub text_of : Reply → List ℕ
 text_of replies.Words = line (codes "refused words")
 text_of replies.NoDatabase = line (codes "refused no-such-database")
@@ -110,11 +125,21 @@ text_of replies.NoTable = line (codes "refused no-table")
 text_of (replies.ClosedTable why) = line (codes "refused closed-table " ++ decimal (closed_number why))
 text_of (replies.Rows rows) = table_text rows
 text_of (replies.Released free pages) = line (released_counts free pages)
+text_of (replies.Prepared lists pages) = line (prepared_counts lists pages)
+text_of replies.AlreadyPrepared = line (codes "refused prepared")
+text_of (replies.Full pages) = line (codes "refused full " ++ decimal pages)
+
+-- an answer that says that something was done, and what was done is done once
+abbrev pub is_done : Reply → Bool
+is_done (replies.Released free pages) = true
+is_done (replies.Prepared lists pages) = true
+is_done _ = false
 
 abbrev pub status_of : Reply → ℕ
 status_of (replies.Rows rows) = 0
 status_of (replies.Sound pages tables rows free) = 0
 status_of (replies.Released free pages) = 0
+status_of (replies.Prepared lists pages) = 0
 status_of replies.Words = 1
 status_of replies.NoDatabase = 2
 status_of (replies.Refused fault) = 2
@@ -122,4 +147,6 @@ status_of replies.NotBuilt = 2
 status_of (replies.Corrupt page) = 2
 status_of replies.NoTable = 2
 status_of (replies.ClosedTable why) = 2
+status_of replies.AlreadyPrepared = 2
+status_of (replies.Full pages) = 2
 status_of (replies.Damage page rule) = 5

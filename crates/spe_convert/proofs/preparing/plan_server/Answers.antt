@@ -58,6 +58,7 @@ returns-clause-plans g c =
       second_are = subst (λ (h : Option History). WhereHeld h found (S free)) (c.in-Ok-count_changes.ensures.same ∙ read)
           (subst (λ (ns : List ℕ). WhereHeld (g.D.Disk.told c.count_changes.new.disk) found (S ns)) again c.in-Ok-server_changes.ensures.made);
       all = subst (λ (h : Option History). WhereHeld h found R) c.in-Ok.ensures.same c.in-Ok-read_free.ensures.read;
+      stock = where_map (g.D.Disk.told c.args.disk.now) found (λ pages. (n : ℕ) → names_node (pages 1) ≡ false) (λ pages. names_node (pages 1) ≡ false) (λ pages named. named 0) c.in-Ok.ensures.refused;
     }
 
 pub returns-clause-refused : goal.returns-clause-refused

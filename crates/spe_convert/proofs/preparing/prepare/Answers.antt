@@ -48,7 +48,7 @@ pub returns-in-Err-make_journals-clause-stops : goal.returns-in-Err-make_journal
 returns-in-Err-make_journals-clause-stops g c =
     let found = c.args.found.now in
     let told = g.D.Disk.told c.args.disk.now in
-    part_unmade c.recovered_pages.ensures.headed c.recovered_pages.ensures.whole found c.requires.limits c.args.lists c.requires.some c.requires.few told (g.D.Disk.told c.make_journals.new.disk) (g.met.D.Disk.whole c.args.disk.now)
+    part_unmade c.recovered_pages.ensures.headed c.recovered_pages.ensures.whole found c.requires.limits c.args.lists c.requires.some c.requires.few told (g.D.Disk.told c.make_journals.new.disk) c.in-Ok.plan.count c.in-Ok.plan.first c.in-Ok.plan.second (g.met.D.Disk.whole c.args.disk.now) c.in-Ok.ensures.plans
     (subst (λ (t : Option History). IfTold t (λ content. AddsSome t (g.D.Disk.told c.make_journals.new.disk) (λ ops. (size : ℕ) (pages : List (List ℕ)) → AreIdle size content pages → KeepsIdle size content (makings (absent_journals content)) ops pages))) c.in-Ok.ensures.same c.in-Err-make_journals.ensures.stops)
 
 pub returns-in-Err-make_journals-clause-prepared : goal.returns-in-Err-make_journals-clause-prepared
