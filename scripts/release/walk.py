@@ -1,4 +1,4 @@
-"""Lets the program put databases in server form back, and looks at each stage with sqlite3."""
+"""Lets the program put databases into server form and back, and looks at each stage with sqlite3."""
 
 import os
 import subprocess
@@ -35,6 +35,17 @@ class Walk:
             if not table.closed:
                 self.same(path, f"rows of {table.name}, {what}", (0, wanted[table.name]), self.run("rows", path, table.name))
 
+    def prepare(self, path, lists):
+        """Puts the file into server form; gives how many pages there are then and how many are free."""
+        with open(path, "rb") as file:
+            data, pages, free = server_form.prepare(file.read(), lists)
+        line = b"prepared lists %d pages %d\n" % (lists, pages)
+        self.same(path, "prepare", (0, line), self.run("prepare", path, str(lists)))
+        with open(path, "rb") as file:
+            self.same(path, "bytes in server form", True, file.read() == data)
+        self.same(path, "prepare again", (2, b"refused prepared\n"), self.run("prepare", path, str(lists)))
+        return pages, free
+
     def release(self, path, pages, free):
         status, verdict = self.run("check", path)
         # The node page is not counted among the free ones.
@@ -61,10 +72,7 @@ class Walk:
         if not os.path.getsize(path):
             return
         wanted = {t.name: sqlite.text_of(path, t) for t in tables if not t.closed}
-        with open(path, "rb") as file:
-            data, pages, free = server_form.prepare(file.read(), seed % 16 + 1)
-        with open(path, "wb") as file:
-            file.write(data)
+        pages, free = self.prepare(path, seed % 16 + 1)
         self.rows(path, tables, "in server form", wanted)
         self.release(path, pages, free)
         self.rows(path, tables, "released", wanted)

@@ -6,7 +6,7 @@ use spe_model::{HeaderFault, Words};
 pub const USAGE: &str = "usage:
   spe check DATABASE             says whether all pages are sound
   spe rows DATABASE TABLE        prints the rows of a table
-  spe prepare DATABASE LISTS     not built yet: free lists for transactions, 1 to 16
+  spe prepare DATABASE LISTS     makes free lists for transactions, 1 to 16 of them
   spe release DATABASE           puts the free lists back as SQLite has them
   spe run DATABASE SCRIPT..      not built yet: up to 64 scripts, each one client
       --workers N                threads, 1 to 16, else 4
@@ -50,18 +50,26 @@ static HEADERS: [(&str, HeaderFault); 8] = [
 ];
 
 // What helps, by how the line begins that is printed.
-static ADVICE: [(&str, &str); 13] = [
+static ADVICE: [(&str, &str); 15] = [
     (
         "refused no-such-database\n",
         "there is no file of this name",
     ),
     (
         "refused not-built\n",
-        "this command is not built yet; check, rows and release are",
+        "this command is not built yet; check, rows, prepare and release are",
     ),
     (
         "refused not-prepared\n",
         "the free lists are as SQLite has them, so there is nothing to release, and transactions need lists of their own: `spe prepare DATABASE LISTS` makes them",
+    ),
+    (
+        "refused prepared\n",
+        "the free lists are made for transactions already; `spe release DATABASE` puts them back as SQLite has them",
+    ),
+    (
+        "refused full ",
+        "with the pages that the free lists want the database would be larger than 1 GiB; nothing was changed",
     ),
     (
         "refused no-table\n",

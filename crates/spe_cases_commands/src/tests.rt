@@ -1,4 +1,5 @@
 mod files;
+mod prepare;
 mod real;
 mod release;
 mod run;

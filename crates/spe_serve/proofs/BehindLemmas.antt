@@ -1,5 +1,5 @@
 -- What a command answers and makes behind recovery.
-use Rattle.std.proofs.Common.{◌≡◌, ℕ, ◌≤◌, List, [], length, true, false, Option, Some, None, Result, Ok, Err, arith, refl, sym, ap, ◌∙◌, subst, inl, inr}
+use Rattle.std.proofs.Common.{◌≡◌, ℕ, ◌≤◌, List, [], length, take, Bool, true, false, Option, Some, None, Result, Ok, Err, arith, refl, sym, ap, ◌∙◌, subst, inl, inr}
 use Rattle.std.specs.Prelude.{IfErr, IfOk, ◌≢◌}
 use Rattle.spe_model.specs.declared.recovery.Recovered.{Recovered}
 use Rattle.spe_model.specs.declared.verdict.Verdict.{Verdict}
@@ -7,10 +7,12 @@ use Rattle.spe_model.specs.declared.verdict.Verdict.TheVariants as verdicts
 use Rattle.spe_model.specs.Content.{Content}
 use Rattle.spe_model.specs.Database.{Database}
 use Rattle.spe_model.specs.Faults.{Rose}
+use Rattle.spe_model.specs.FreeList.{names_node}
+use Rattle.spe_model.specs.Header.{fields}
 use Rattle.spe_model.specs.Paging.{Paging}
 use Rattle.spe_model.specs.Served.{usable_in}
 use Rattle.spe_model.specs.Settled.{IsFound, IsWithinLimits, header_in, page_in}
-use Rattle.spe_model.specs.Standing.{StandsFor}
+use Rattle.spe_model.specs.Standing.{StandsFor, Whether}
 use Rattle.spe_model.specs.Trace.{History, present}
 use Rattle.spe_model.specs.Verdict.{verdict_of}
 use Rattle.spe_disk.specs.Told.{absent_journals, makings}
@@ -19,6 +21,7 @@ use Rattle.spe_convert.specs.declared.fault.ConvertFault.{ConvertFault}
 use Rattle.spe_convert.specs.declared.fault.ConvertFault.TheVariants as faults
 use Rattle.spe_convert.specs.Causes.{HasReleaseCause, IsReleaseFault}
 use Rattle.spe_convert.specs.Free.{IsDamage}
+use Rattle.spe_convert.specs.Prepare.{IsAllPrepared, making_and_preparing}
 use Rattle.spe_convert.specs.Reading.{usable_of}
 use Rattle.spe_convert.specs.Release.{AreReleased, IsPart, IsWhole, WhereFound, making_first}
 use Rattle.spe_verdict.specs.Law.{StandsIsTrue}
@@ -28,33 +31,27 @@ use Rattle.spe_serve.specs.declared.reply.Reply.{Reply}
 use Rattle.spe_serve.specs.declared.reply.Reply.TheVariants as replies
 use Rattle.spe_serve.specs.declared.failure.Failure.{Failure}
 use Rattle.spe_serve.specs.declared.failure.Failure.TheVariants as failures
-use Rattle.spe_serve.specs.Answer.{IsOfFree, IsOfSound, IsOverFound, only_reads, reply_of_verdict}
-use Rattle.spe_serve.specs.Behind.{AreSomeOwn, IsOfReleasing, IsOwnFor, MakesOwn, refusal_in, released_reply}
+use Rattle.spe_serve.specs.Answer.{IsOfFree, IsOfSound, IsOverFound, IsOverPages, is_built, only_reads, reply_of_lists, reply_of_verdict, writes}
+use Rattle.spe_serve.specs.Behind.{AreSomeOwn, IsOfReleasing, IsOwnFor, MakesFirst, MakesOwn, refusal_in, released_reply}
 use Rattle.spe_serve.specs.Ending.{outcome_of}
 use Rattle.spe_serve.specs.Failure.{IsCausedBy, IsCausedByEither}
 use Rattle.spe_serve.specs.Own.{StandOver, are_sound, found_in, is_standing}
-use Rattle.spe_serve.specs.Reply.{IsAboutRelease, IsAboutVerdict}
+use Rattle.spe_serve.specs.Reply.{IsAbout, IsAboutRelease, IsAboutVerdict, is_done}
+use Rattle.spe_serve.proofs.FormLemmas.{sound_in}
+use Rattle.spe_serve.proofs.OutcomeLemmas.{absent_about}
+use Rattle.spe_serve.proofs.RefusedLemmas.{refused_built}
 use Rattle.spe_serve.proofs.SameLemmas.{same_length}
 use Rattle.spe_serve.proofs.StockLemmas.{found_names, moved}
 use Rattle.spe_serve.proofs.TraceLemmas.{adds_nothing}
 
--- pages that break no rule stand for a database
-standing_is : (v : Verdict) → is_standing v ≡ true → (tables : ℕ) × (rows : ℕ) × (free : ℕ) × (v ≡ verdicts.Stands tables rows free)
-standing_is (verdicts.Stands tables rows free) is = (tables, rows, free, refl)
-standing_is (verdicts.Broken page rule) is = absurd cc
-
-wide_in : (found : Recovered) (content : Content) (pages : List (List ℕ)) → IsWithinLimits found → IsFound found content pages → 480 ≤ usable_in (header_in pages)
-wide_in found content pages limits is = let size = is.page_size in let rest = is.reserved in let room = limits.usable in omega (arith, size, rest, room)
-
 pub stands_in : (found : Recovered) (content : Content) (pages : List (List ℕ)) → StandsIsTrue → IsWithinLimits found → IsFound found content pages → are_sound pages ≡ true
     → (db : Database) × StandOver pages db
 stands_in found content pages law limits is sound =
-    let v = standing_is (verdict_of (usable_in (header_in pages)) (length pages) (page_in pages)) sound in
-    let both = law (usable_in (header_in pages)) (length pages) (page_in pages) v.0 v.1 v.2 (wide_in found content pages limits is) v.3 in
-    (both.0, both.1)
+    let s = sound_in found content pages law limits is sound in
+    (s.db, s.stands)
 
 -- the same, with the numbers that recovery found
-found_stands : (found : Recovered) (content : Content) (pages : List (List ℕ)) (db : Database) → IsFound found content pages → StandOver pages db
+pub found_stands : (found : Recovered) (content : Content) (pages : List (List ℕ)) (db : Database) → IsFound found content pages → StandOver pages db
     → StandsFor (usable_of found) found.pages (page_in pages) db
 found_stands found content pages db is stands =
     let size = is.page_size in let rest = is.reserved in
@@ -97,7 +94,7 @@ abbrev pub AreSoundIn : Recovered → Option History → Type 0
 AreSoundIn found old = WhereFound old found (λ content pages. are_sound pages ≡ true)
 
 -- no page is damaged where no rule is broken
-never_damaged : (found : Recovered) (content : Content) (pages : List (List ℕ)) → StandsIsTrue → IsWithinLimits found → IsFound found content pages → are_sound pages ≡ true
+pub never_damaged : (found : Recovered) (content : Content) (pages : List (List ℕ)) → StandsIsTrue → IsWithinLimits found → IsFound found content pages → are_sound pages ≡ true
     → ((db : Database) → StandsFor (usable_of found) found.pages (page_in pages) db → ⊥) → ⊥
 never_damaged found content pages law limits is sound none =
     let db = stands_in found content pages law limits is sound in
@@ -184,20 +181,28 @@ sound_own db found old new result law limits sound whole part damaged first = by
     by_result (Err (faults.Full pages)) whole damaged first = record { part = some old sound part; whole = inr (first (λ same. cc)) }
     by_result (Err (faults.Corrupt page)) whole damaged first = record { part = some old sound part; whole = never old page sound damaged }
 
--- nothing was made, as a command that reads makes nothing
-nothing_over : (c : Command) (found : Recovered) (told : Option History) (holds : (content : Content) (pages : List (List ℕ)) → AreSomeOwn c found content pages [])
-    → WhereFound told found (λ content pages. AddsSome told told (AreSomeOwn c found content pages))
-nothing_over c found None holds = tt
-nothing_over c found (Some h) holds = λ pages is. record { made = []; adds = adds_nothing (Some h); holds = holds (present h) pages }
+-- nothing was made
+none_own : (c : Command) (found : Recovered) (content : Content) (pages : List (List ℕ)) → AreSomeOwn c found content pages []
+none_own (commands.Rows db table) found content pages = refl
+none_own (commands.Check db) found content pages = refl
+none_own (commands.Prepare db lists) found content pages = inl refl
+none_own (commands.Release db) found content pages = inl refl
+none_own (commands.Run db scripts workers retries slots) found content pages = refl
+none_own (commands.Work db seed count) found content pages = refl
 
-reads_none : (c : Command) → only_reads c ≡ true → (found : Recovered) (content : Content) (pages : List (List ℕ)) → AreSomeOwn c found content pages []
-reads_none (commands.Rows db table) reads = λ found content pages. refl
-reads_none (commands.Check db) reads = λ found content pages. refl
-reads_none (commands.Prepare db lists) reads = absurd cc
-reads_none (commands.Release db) reads = absurd cc
-reads_none (commands.Run db scripts workers retries slots) reads = absurd cc
-reads_none (commands.Work db seed count) reads = absurd cc
+nothing_over : (c : Command) (found : Recovered) (told : Option History) → WhereFound told found (λ content pages. AddsSome told told (AreSomeOwn c found content pages))
+nothing_over c found None = tt
+nothing_over c found (Some h) = λ pages is. record { made = []; adds = adds_nothing (Some h); holds = none_own c found (present h) pages }
 
+none_first : (c : Command) (told : Option History) → MakesFirst c told told
+none_first (commands.Rows db table) told = refl
+none_first (commands.Check db) told = refl
+none_first (commands.Prepare db lists) told = tt
+none_first (commands.Release db) told = inl refl
+none_first (commands.Run db scripts workers retries slots) told = refl
+none_first (commands.Work db seed count) told = refl
+
+-- as a command that reads makes nothing
 reads_all : (c : Command) → only_reads c ≡ true → (found : Recovered) (told : Option History) → WhereFound told found (MakesOwn c found told told)
 reads_all c reads found None = tt
 reads_all (commands.Rows db table) reads found (Some h) = λ pages is. refl
@@ -207,28 +212,21 @@ reads_all (commands.Release db) reads found (Some h) = absurd cc
 reads_all (commands.Run db scripts workers retries slots) reads found (Some h) = absurd cc
 reads_all (commands.Work db seed count) reads found (Some h) = absurd cc
 
-reads_first : (c : Command) (found : Recovered) (told : Option History) → only_reads c ≡ true
-    → WhereFound told found (λ content pages. AddsSome told told (AreSomeOwn c found content pages)) → IsOwnFor c found told told (outcome_of (Err failures.Memory))
-reads_first (commands.Rows db table) found told reads part = record { part = part; whole = refl }
-reads_first (commands.Check db) found told reads part = record { part = part; whole = refl }
-reads_first (commands.Prepare db lists) found told reads part = absurd cc
-reads_first (commands.Release db) found told reads part = absurd cc
-reads_first (commands.Run db scripts workers retries slots) found told reads part = absurd cc
-reads_first (commands.Work db seed count) found told reads part = absurd cc
+-- or as there was no answer
+pub failed_own : (c : Command) (found : Recovered) (old new : Option History) (failure : Failure) → new ≡ old → IsOwnFor c found old new (outcome_of (Err failure))
+failed_own c found old new failure same = subst (λ (n : Option History). IsOwnFor c found old n (outcome_of (Err failure))) (sym same) (by_failure failure)
+  where
+    by_failure : (f : Failure) → IsOwnFor c found old old (outcome_of (Err f))
+    by_failure failures.Disk = record { part = nothing_over c found old; whole = tt }
+    by_failure failures.Memory = record { part = nothing_over c found old; whole = none_first c old }
 
 pub reads_own : (c : Command) (found : Recovered) (old new : Option History) (result : Result Reply Failure) → only_reads c ≡ true → new ≡ old
     → IsOwnFor c found old new (outcome_of result)
-reads_own c found old new result reads same = subst (λ (n : Option History). IsOwnFor c found old n (outcome_of result)) (sym same) (by_result result)
-  where
-    part : WhereFound old found (λ content pages. AddsSome old old (AreSomeOwn c found content pages))
-    part = nothing_over c found old (reads_none c reads found)
+reads_own c found old new (Ok reply) reads same =
+    subst (λ (n : Option History). IsOwnFor c found old n (outcome_of (Ok reply))) (sym same) (record { part = nothing_over c found old; whole = reads_all c reads found old })
+reads_own c found old new (Err failure) reads same = failed_own c found old new failure same
 
-    by_result : (r : Result Reply Failure) → IsOwnFor c found old old (outcome_of r)
-    by_result (Ok reply) = record { part = part; whole = reads_all c reads found old }
-    by_result (Err failures.Disk) = record { part = part; whole = tt }
-    by_result (Err failures.Memory) = reads_first c found old reads part
-
--- what `check` answers, and `release` refuses by it
+-- what `check` answers, and a command that writes refuses by it
 abbrev pub IsCheckedIn : Recovered → Option History → Reply → Type 0
 IsCheckedIn found old reply = WhereFound old found (λ content pages. IsOverFound (commands.Check []) pages reply)
 
@@ -242,59 +240,90 @@ sound_by : (count : ℕ) (v : Verdict) (reply : Reply) → reply ≡ reply_of_ve
 sound_by count (verdicts.Stands tables rows free) reply is none = refl
 sound_by count (verdicts.Broken page rule) reply is none = absurd (some_none (replies.Corrupt page) (sym (ap refusal_in is) ∙ none))
 
-refused_by : (usable count : ℕ) (pages : Paging) (v : Verdict) (reply refusal : Reply) → reply ≡ reply_of_verdict count v → refusal_in reply ≡ Some refusal
-    → IsOfSound usable count pages v refusal
-refused_by usable count pages (verdicts.Stands tables rows free) reply refusal is some = absurd (none_some refusal (sym (ap refusal_in is) ∙ some))
-refused_by usable count pages (verdicts.Broken page rule) reply refusal is some = let both : Some (replies.Corrupt page) ≡ Some refusal = sym (ap refusal_in is) ∙ some in cc
+-- the refusal names the broken page
+broken_by : (count : ℕ) (v : Verdict) (reply refusal : Reply) → reply ≡ reply_of_verdict count v → refusal_in reply ≡ Some refusal
+    → (page : ℕ) × (rule : ℕ) × (v ≡ verdicts.Broken page rule) × (refusal ≡ replies.Corrupt page)
+broken_by count (verdicts.Stands tables rows free) reply refusal is some = absurd (none_some refusal (sym (ap refusal_in is) ∙ some))
+broken_by count (verdicts.Broken page rule) reply refusal is some =
+    let both : Some refusal ≡ Some (replies.Corrupt page) = sym some ∙ ap refusal_in is in (page, rule, refl, cc)
 
-unsound_by : (count : ℕ) (v : Verdict) (reply refusal : Reply) → reply ≡ reply_of_verdict count v → refusal_in reply ≡ Some refusal → is_standing v ≡ false
-unsound_by count (verdicts.Stands tables rows free) reply refusal is some = absurd (none_some refusal (sym (ap refusal_in is) ∙ some))
-unsound_by count (verdicts.Broken page rule) reply refusal is some = refl
+refused_by : (c : Command) (usable count : ℕ) (pages : Paging) (page rule : ℕ) → writes c ≡ true → verdict_of usable count pages ≡ verdicts.Broken page rule
+    → IsOverPages c usable count pages (replies.Corrupt page)
+refused_by (commands.Rows db table) usable count pages page rule writing is = absurd cc
+refused_by (commands.Check db) usable count pages page rule writing is = absurd cc
+refused_by (commands.Prepare db lists) usable count pages page rule writing is = sym (ap (reply_of_lists lists (fields (take 100 (pages 1))).page_size count (names_node (pages 1))) is)
+refused_by (commands.Release db) usable count pages page rule writing is = subst (λ (v : Verdict). IsOfSound usable count pages v (replies.Corrupt page)) (sym is) refl
+refused_by (commands.Run db scripts workers retries slots) usable count pages page rule writing is = absurd cc
+refused_by (commands.Work db seed count_of) usable count pages page rule writing is = absurd cc
 
 pub checked_sound : (found : Recovered) (old : Option History) (reply : Reply) → IsCheckedIn found old reply → refusal_in reply ≡ None → AreSoundIn found old
 checked_sound found None reply checked none = tt
 checked_sound found (Some h) reply checked none = λ pages is. sound_by (length pages) _ reply (checked pages is) none
 
-pub checked_refused : (found : Recovered) (old : Option History) (reply refusal : Reply) → IsCheckedIn found old reply → refusal_in reply ≡ Some refusal
-    → WhereFound old found (λ content pages. IsOverFound (commands.Release []) pages refusal)
-checked_refused found None reply refusal checked some = tt
-checked_refused found (Some h) reply refusal checked some = λ pages is. refused_by (usable_in (header_in pages)) (length pages) (page_in pages) _ reply refusal (checked pages is) some
+pub checked_refused : (c : Command) (found : Recovered) (old : Option History) (reply refusal : Reply) → writes c ≡ true → IsCheckedIn found old reply → refusal_in reply ≡ Some refusal
+    → WhereFound old found (λ content pages. IsOverFound c pages refusal)
+checked_refused c found None reply refusal writing checked some = tt
+checked_refused c found (Some h) reply refusal writing checked some = λ pages is.
+    let usable = usable_in (header_in pages) in
+    let b = broken_by (length pages) (verdict_of usable (length pages) (page_in pages)) reply refusal (checked pages is) some in
+    subst (IsOverPages c usable (length pages) (page_in pages)) (sym b.3) (refused_by c usable (length pages) (page_in pages) b.0 b.1 writing b.2)
 
--- nothing was made, as there was no answer or a refusal
-pub refused_own : (db : List ℕ) (found : Recovered) (old new : Option History) (reply refusal : Reply) → new ≡ old → IsCheckedIn found old reply → refusal_in reply ≡ Some refusal
-    → IsOwnFor (commands.Release db) found old new (outcome_of (Ok refusal))
-refused_own db found old new reply refusal same checked some =
-    subst (λ (n : Option History). IsOwnFor (commands.Release db) found old n (outcome_of (Ok refusal))) (sym same)
-    (record { part = nothing_over (commands.Release db) found old (λ content pages. inl refl); whole = whole old checked })
+-- nothing was made, as the pages are refused
+refused_all : (c : Command) (found : Recovered) (told : Option History) (content : Content) (pages : List (List ℕ)) (page rule : ℕ) → writes c ≡ true
+    → verdict_of (usable_in (header_in pages)) (length pages) (page_in pages) ≡ verdicts.Broken page rule → MakesOwn c found told told content pages
+refused_all (commands.Rows db table) found told content pages page rule writing is = absurd cc
+refused_all (commands.Check db) found told content pages page rule writing is = absurd cc
+refused_all (commands.Prepare db lists) found told content pages page rule writing is =
+    subst (λ (b : Bool). Whether b ((count : ℕ) × IsAllPrepared found lists pages (making_and_preparing found lists content pages) told told count) (told ≡ told))
+    (sym (ap (λ (v : Verdict). is_done (reply_of_lists lists (fields (take 100 (page_in pages 1))).page_size (length pages) (names_node (page_in pages 1)) v)) is)) refl
+refused_all (commands.Release db) found told content pages page rule writing is =
+    subst (λ (b : Bool). Whether b ((count : ℕ) × IsWhole found pages (making_first found content pages) told told count) (told ≡ told)) (sym (ap is_standing is)) refl
+refused_all (commands.Run db scripts workers retries slots) found told content pages page rule writing is = absurd cc
+refused_all (commands.Work db seed count) found told content pages page rule writing is = absurd cc
+
+pub refused_own : (c : Command) (found : Recovered) (old new : Option History) (reply refusal : Reply) → writes c ≡ true → new ≡ old → IsCheckedIn found old reply
+    → refusal_in reply ≡ Some refusal → IsOwnFor c found old new (outcome_of (Ok refusal))
+refused_own c found old new reply refusal writing same checked some =
+    subst (λ (n : Option History). IsOwnFor c found old n (outcome_of (Ok refusal))) (sym same) (record { part = nothing_over c found old; whole = whole old checked })
   where
-    whole : (o : Option History) → IsCheckedIn found o reply → WhereFound o found (MakesOwn (commands.Release db) found o o)
+    whole : (o : Option History) → IsCheckedIn found o reply → WhereFound o found (MakesOwn c found o o)
     whole None checked = tt
-    whole (Some h) checked = λ pages is. rw (unsound_by (length pages) _ reply refusal (checked pages is) some) refl
+    whole (Some h) checked = λ pages is.
+        let b = broken_by (length pages) (verdict_of (usable_in (header_in pages)) (length pages) (page_in pages)) reply refusal (checked pages is) some in
+        refused_all c found (Some h) (present h) pages b.0 b.1 writing b.2
 
-pub failed_own : (db : List ℕ) (found : Recovered) (old new : Option History) (failure : Failure) → new ≡ old
-    → IsOwnFor (commands.Release db) found old new (outcome_of (Err failure))
-failed_own db found old new failure same =
-    subst (λ (n : Option History). IsOwnFor (commands.Release db) found old n (outcome_of (Err failure))) (sym same) (by_failure failure)
-  where
-    part : WhereFound old found (λ content pages. AddsSome old old (AreSomeOwn (commands.Release db) found content pages))
-    part = nothing_over (commands.Release db) found old (λ content pages. inl refl)
+corrupt_about : (c : Command) (page : ℕ) → writes c ≡ true → IsAbout c (replies.Corrupt page)
+corrupt_about (commands.Rows db table) page writing = absurd cc
+corrupt_about (commands.Check db) page writing = absurd cc
+corrupt_about (commands.Prepare db lists) page writing = tt
+corrupt_about (commands.Release db) page writing = tt
+corrupt_about (commands.Run db scripts workers retries slots) page writing = absurd cc
+corrupt_about (commands.Work db seed count) page writing = absurd cc
 
-    by_failure : (f : Failure) → IsOwnFor (commands.Release db) found old old (outcome_of (Err f))
-    by_failure failures.Disk = record { part = part; whole = tt }
-    by_failure failures.Memory = record { part = part; whole = inl refl }
+is_writer : (c : Command) → writes c ≡ true → is_built c ≡ true
+is_writer (commands.Rows db table) writing = refl
+is_writer (commands.Check db) writing = refl
+is_writer (commands.Prepare db lists) writing = refl
+is_writer (commands.Release db) writing = refl
+is_writer (commands.Run db scripts workers retries slots) writing = absurd cc
+is_writer (commands.Work db seed count) writing = absurd cc
 
-pub refused_release : (reply refusal : Reply) → IsAboutVerdict reply → refusal_in reply ≡ Some refusal → IsAboutRelease refusal
-refused_release replies.Words refusal about some = absurd about
-refused_release replies.NoDatabase refusal about some = let same : replies.NoDatabase ≡ refusal = cc in subst IsAboutRelease same tt
-refused_release (replies.Refused fault) refusal about some = let same : replies.Refused fault ≡ refusal = cc in subst IsAboutRelease same about
-refused_release replies.NotBuilt refusal about some = absurd about
-refused_release (replies.Sound pages tables rows free) refusal about some = absurd cc
-refused_release (replies.Damage page rule) refusal about some = let same : replies.Corrupt page ≡ refusal = cc in subst IsAboutRelease same tt
-refused_release (replies.Corrupt page) refusal about some = let same : replies.Corrupt page ≡ refusal = cc in subst IsAboutRelease same tt
-refused_release replies.NoTable refusal about some = absurd about
-refused_release (replies.ClosedTable why) refusal about some = absurd about
-refused_release (replies.Rows rows) refusal about some = absurd about
-refused_release (replies.Released free pages) refusal about some = absurd about
+pub refused_writing : (c : Command) (reply refusal : Reply) → writes c ≡ true → IsAboutVerdict reply → refusal_in reply ≡ Some refusal → IsAbout c refusal
+refused_writing c replies.Words refusal writing about some = absurd about
+refused_writing c replies.NoDatabase refusal writing about some = let same : replies.NoDatabase ≡ refusal = cc in subst (IsAbout c) same (absent_about c (is_writer c writing))
+refused_writing c (replies.Refused fault) refusal writing about some =
+    let same : replies.Refused fault ≡ refusal = cc in subst (IsAbout c) same (refused_built c fault (is_writer c writing) about)
+refused_writing c replies.NotBuilt refusal writing about some = absurd about
+refused_writing c (replies.Sound pages tables rows free) refusal writing about some = absurd cc
+refused_writing c (replies.Damage page rule) refusal writing about some = let same : replies.Corrupt page ≡ refusal = cc in subst (IsAbout c) same (corrupt_about c page writing)
+refused_writing c (replies.Corrupt page) refusal writing about some = let same : replies.Corrupt page ≡ refusal = cc in subst (IsAbout c) same (corrupt_about c page writing)
+refused_writing c replies.NoTable refusal writing about some = absurd about
+refused_writing c (replies.ClosedTable why) refusal writing about some = absurd about
+refused_writing c (replies.Rows rows) refusal writing about some = absurd about
+refused_writing c (replies.Released free pages) refusal writing about some = absurd about
+refused_writing c (replies.Prepared lists pages) refusal writing about some = absurd about
+refused_writing c replies.AlreadyPrepared refusal writing about some = absurd about
+refused_writing c (replies.Full pages) refusal writing about some = absurd about
 
 -- a failure of the check, by the count of reading calls; and of what comes behind it
 pub failed_cause : (reads reads_now ops ops_now : ℕ) (failure : Failure) → IsCausedBy reads reads_now failure → IsCausedByEither reads reads_now ops ops_now failure

@@ -32,6 +32,9 @@ status_one replies.NoTable is = absurd (apart 2 1 refl is)
 status_one (replies.ClosedTable why) is = absurd (apart 2 1 refl is)
 status_one (replies.Rows rows) is = absurd (apart 0 1 refl is)
 status_one (replies.Released free pages) is = absurd (apart 0 1 refl is)
+status_one (replies.Prepared lists pages) is = absurd (apart 0 1 refl is)
+status_one replies.AlreadyPrepared is = absurd (apart 2 1 refl is)
+status_one (replies.Full pages) is = absurd (apart 2 1 refl is)
 
 no_fault : (reply : Reply) → status_of reply ≡ 3 → ⊥
 no_fault replies.Words is = apart 1 3 refl is
@@ -45,12 +48,15 @@ no_fault replies.NoTable is = apart 2 3 refl is
 no_fault (replies.ClosedTable why) is = apart 2 3 refl is
 no_fault (replies.Rows rows) is = apart 0 3 refl is
 no_fault (replies.Released free pages) is = apart 0 3 refl is
+no_fault (replies.Prepared lists pages) is = apart 0 3 refl is
+no_fault replies.AlreadyPrepared is = apart 2 3 refl is
+no_fault (replies.Full pages) is = apart 2 3 refl is
 
 -- no command is answered that there is none
 never_words : (c : Command) → IsAbout c replies.Words → ⊥
 never_words (commands.Rows db table) about = about
 never_words (commands.Check db) about = about
-never_words (commands.Prepare db lists) about = cc
+never_words (commands.Prepare db lists) about = about
 never_words (commands.Release db) about = about
 never_words (commands.Run db scripts workers retries slots) about = cc
 never_words (commands.Work db seed count) about = cc

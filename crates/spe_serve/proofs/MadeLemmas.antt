@@ -16,6 +16,7 @@ use Rattle.spe_disk.specs.Told.{Adds, Finds, absent_journals, makings}
 use Rattle.spe_recover.specs.Recovered.{HasPages, IsPlain, IsRefusal, is_wanted, rollback_of, rollback_to}
 use Rattle.spe_recover.specs.Written.{MakesCounted}
 use Rattle.spe_disk.specs.Added.{AddsSome, IfBothTold, IfTold, MakesCut}
+use Rattle.spe_convert.specs.Prepare.{IsAllPrepared, IsPartPrepared, making_and_preparing, prepared}
 use Rattle.spe_convert.specs.Release.{IsPart, IsWhole, making_first, released}
 use Rattle.spe_words.specs.declared.command.Command.{Command}
 use Rattle.spe_words.specs.declared.command.Command.TheVariants as commands
@@ -28,10 +29,11 @@ use Rattle.spe_serve.specs.Answer.{is_built, only_reads, want_of}
 use Rattle.spe_serve.specs.Behind.{AreSomeOwn, IsOwnFor, MakesFirst, MakesOwn}
 use Rattle.spe_serve.specs.Ending.{outcome_of, refused_for}
 use Rattle.spe_serve.specs.Made.{AreAllOf, AreAllWith, AreFreeIn, AreOperationsOf, AreOwnOver, ArePartOf, HoldsLast, IsMadeFor, MakesAll, MakesPart, MakesSome, RollsBackFirst, Settles, has_wanted}
-use Rattle.spe_serve.specs.Own.{AreOwn, AreTheFree, are_sound, found_in, releasing_first, rolled_back}
+use Rattle.spe_serve.specs.Own.{AreOwn, AreTheFree, are_preparing, are_sound, found_in, preparing_first, releasing_first, rolled_back}
 use Rattle.spe_serve.proofs.OutcomeLemmas.{none_bytes}
 use Rattle.spe_serve.proofs.CrashLemmas.{absent_refused, is_refused}
 use Rattle.spe_serve.proofs.FileLemmas.{wanted_false, wanted_true}
+use Rattle.spe_serve.proofs.ServerLemmas as server
 use Rattle.spe_serve.proofs.StockLemmas.{found_names, idle_found, making_as, moved, released_as}
 use Rattle.spe_serve.proofs.TraceLemmas.{adds_both, adds_nothing, cut_all, cut_behind, cut_front, more, present_more}
 
@@ -66,9 +68,13 @@ reads_free (commands.Work db seed count) pages free reads = absurd cc
 some_own : (c : Command) (content : Content) (pages : List (List ℕ)) → (own : List Operation) × AreOwn c content pages [] own
 some_own (commands.Rows db table) content pages = (no_made, refl)
 some_own (commands.Check db) content pages = (no_made, refl)
-some_own (commands.Prepare db lists) content pages = (no_made, refl)
 some_own (commands.Run db scripts workers retries slots) content pages = (no_made, refl)
 some_own (commands.Work db seed count) content pages = (no_made, refl)
+some_own (commands.Prepare db lists) content pages = go (are_preparing lists pages)
+  where
+    go : (b : Bool) → (own : List Operation) × Whether b (own ≡ preparing_first lists content pages []) (own ≡ [])
+    go true = (preparing_first lists content pages [], refl)
+    go false = (no_made, refl)
 some_own (commands.Release db) content pages = go (are_sound pages)
   where
     go : (b : Bool) → (own : List Operation) × Whether b (own ≡ releasing_first content pages []) (own ≡ [])
@@ -186,7 +192,7 @@ unbuilt_wants : (c : Command) (r : Recovery) → is_built c ≡ false → has_wa
 unbuilt_wants c (Err fault) unbuilt = refl
 unbuilt_wants (commands.Rows db table) (Ok pages) unbuilt = absurd cc
 unbuilt_wants (commands.Check db) (Ok pages) unbuilt = absurd cc
-unbuilt_wants (commands.Prepare db lists) (Ok pages) unbuilt = refl
+unbuilt_wants (commands.Prepare db lists) (Ok pages) unbuilt = absurd cc
 unbuilt_wants (commands.Release db) (Ok pages) unbuilt = absurd cc
 unbuilt_wants (commands.Run db scripts workers retries slots) (Ok pages) unbuilt = refl
 unbuilt_wants (commands.Work db seed count) (Ok pages) unbuilt = refl
@@ -195,7 +201,7 @@ unbuilt_free : (c : Command) (r : Recovery) → is_built c ≡ false → AreFree
 unbuilt_free c (Err fault) unbuilt = tt
 unbuilt_free (commands.Rows db table) (Ok pages) unbuilt = absurd cc
 unbuilt_free (commands.Check db) (Ok pages) unbuilt = absurd cc
-unbuilt_free (commands.Prepare db lists) (Ok pages) unbuilt = tt
+unbuilt_free (commands.Prepare db lists) (Ok pages) unbuilt = absurd cc
 unbuilt_free (commands.Release db) (Ok pages) unbuilt = absurd cc
 unbuilt_free (commands.Run db scripts workers retries slots) (Ok pages) unbuilt = tt
 unbuilt_free (commands.Work db seed count) (Ok pages) unbuilt = tt
@@ -220,7 +226,7 @@ disk_failed c old new part = record { part = part; whole = tt; settled = λ buil
 memory_none : (c : Command) (told : Option History) → MakesSome c told told
 memory_none (commands.Rows db table) told = inl refl
 memory_none (commands.Check db) told = inl refl
-memory_none (commands.Prepare db lists) told = inl refl
+memory_none (commands.Prepare db lists) told = part_none (commands.Prepare db lists) told
 memory_none (commands.Release db) told = inl refl
 memory_none (commands.Run db scripts workers retries slots) told = inl refl
 memory_none (commands.Work db seed count) told = inl refl
@@ -228,11 +234,23 @@ memory_none (commands.Work db seed count) told = inl refl
 unmade : (c : Command) (old new : Option History) → new ≡ old → MakesSome c old new
 unmade c old new same = subst (MakesSome c old) (sym same) (memory_none c old)
 
+-- all operations are a part of them
+all_part : (c : Command) (content : Content) (made : List Operation) → AreAllOf c content made → ArePartOf c content made
+all_part c content made all = go (has_wanted c (recovered content)) all
+  where
+    go : (b : Bool) → Whether b (AreAllWith c content made) (made ≡ []) → ArePartOf c content made
+    go true those = record { made = made; free = those.free; of = those.of; part = cut_all made }
+    go false none = subst (ArePartOf c content) (sym none) (some_part c content)
+
+part_all : (c : Command) (old new : Option History) → MakesAll c old new → MakesPart c old new
+part_all c None new all = tt
+part_all c (Some h) new all = record { made = all.made; adds = all.adds; holds = all_part c (present h) all.made all.holds }
+
 -- or all
 pub memory_all : (c : Command) (old new : Option History) → MakesAll c old new → MakesSome c old new
 memory_all (commands.Rows db table) old new all = inr all
 memory_all (commands.Check db) old new all = inr all
-memory_all (commands.Prepare db lists) old new all = inr all
+memory_all (commands.Prepare db lists) old new all = part_all (commands.Prepare db lists) old new all
 memory_all (commands.Release db) old new all = inr (inl all)
 memory_all (commands.Run db scripts workers retries slots) old new all = inr all
 memory_all (commands.Work db seed count) old new all = inr all
@@ -326,6 +344,53 @@ release_settled db h k found pages j facts makes = go (are_sound pages) refl mak
       is = let one : j ≡ k = cc in subst (λ (i : History). IsFound found (present i) pages) (sym one) facts.is;
     }
 
+-- `prepare` made all, or refused
+preparing_is : (db : List ℕ) (lists : ℕ) (h k : History) (found : Recovered) (pages : List (List ℕ)) (free : List ℕ) → Facts (commands.Prepare db lists) h k found pages
+    → making_and_preparing found lists (present k) pages free ≡ preparing_first lists (present h) pages free
+preparing_is db lists h k found pages free facts =
+    server.making_as found (length (rollback_of (present h))) lists (present k) pages free (found_names found (present k) pages facts.is) facts.counted
+    ∙ ap (λ (content : Content). making_and_preparing (found_in (length (rollback_of (present h))) pages) lists content pages free) facts.rolled
+
+prepare_all : (db : List ℕ) (lists : ℕ) (h k : History) (found : Recovered) (pages : List (List ℕ)) (new : Option History) → Facts (commands.Prepare db lists) h k found pages
+    → MakesOwn (commands.Prepare db lists) found (Some k) new (present k) pages → MakesAll (commands.Prepare db lists) (Some h) new
+prepare_all db lists h k found pages new facts makes = go (are_preparing lists pages) refl makes
+  where
+    go : (b : Bool) → are_preparing lists pages ≡ b
+        → Whether b ((count : ℕ) × IsAllPrepared found lists pages (making_and_preparing found lists (present k) pages) (Some k) new count) (new ≡ Some k)
+        → MakesAll (commands.Prepare db lists) (Some h) new
+    go true writing (count, whole) =
+        own_all (commands.Prepare db lists) h k found pages new whole.free (making_and_preparing found lists (present k) pages whole.free) facts
+        (rw writing (server.in_found found lists pages whole.free (found_names found (present k) pages facts.is) whole.prepared_are))
+        (rw writing (preparing_is db lists h k found pages whole.free facts)) whole.made
+    go false writing same =
+        own_all (commands.Prepare db lists) h k found pages new [] [] facts (rw writing tt) (rw writing refl)
+        (subst (λ (n : Option History). Adds (Some k) n no_made) (sym same) (adds_nothing (Some k)))
+
+-- the files at last
+prepare_settled : (db : List ℕ) (lists : ℕ) (h k : History) (found : Recovered) (pages : List (List ℕ)) (j : History) → Facts (commands.Prepare db lists) h k found pages
+    → MakesOwn (commands.Prepare db lists) found (Some k) (Some j) (present k) pages → HoldsLast (commands.Prepare db lists) pages (present j)
+prepare_settled db lists h k found pages j facts makes = go (are_preparing lists pages) refl makes
+  where
+    go : (b : Bool) → are_preparing lists pages ≡ b
+        → Whether b ((count : ℕ) × IsAllPrepared found lists pages (making_and_preparing found lists (present k) pages) (Some k) (Some j) count) (Some j ≡ Some k)
+        → HoldsLast (commands.Prepare db lists) pages (present j)
+    go true writing (count, whole) =
+        let names = found_names found (present k) pages facts.is in
+        let those = server.in_found found lists pages whole.free names whole.prepared_are in
+        let later = server.prepared_as found lists pages whole.free names in
+        record {
+          later = prepared found lists pages whole.free;
+          left = rw writing (record { free = whole.free; prepared_are = those; later_is = later });
+          found = found_in 0 (prepared found lists pages whole.free);
+          is = idle_found found.page_size (present j) (prepared found lists pages whole.free) facts.headed facts.quiet whole.idle;
+        }
+    go false writing same = record {
+      later = pages;
+      left = rw writing refl;
+      found = found;
+      is = let one : j ≡ k = cc in subst (λ (i : History). IsFound found (present i) pages) (sym one) facts.is;
+    }
+
 reads_settled : (c : Command) (pages : List (List ℕ)) (found : Recovered) (now : Content) → only_reads c ≡ true → IsFound found now pages → HoldsLast c pages now
 reads_settled (commands.Rows db table) pages found now reads is = record { later = pages; left = refl; found = found; is = is }
 reads_settled (commands.Check db) pages found now reads is = record { later = pages; left = refl; found = found; is = is }
@@ -342,7 +407,7 @@ whole_for (commands.Rows db table) h k found pages new facts same =
 whole_for (commands.Check db) h k found pages new facts same =
     subst (MakesAll (commands.Check db) (Some h)) (sym same) (reads_all (commands.Check db) h k found pages refl facts)
 whole_for (commands.Release db) h k found pages new facts makes = release_all db h k found pages new facts makes
-whole_for (commands.Prepare db lists) h k found pages new facts makes = absurd (let built = facts.built in cc)
+whole_for (commands.Prepare db lists) h k found pages new facts makes = prepare_all db lists h k found pages new facts makes
 whole_for (commands.Run db scripts workers retries slots) h k found pages new facts makes = absurd (let built = facts.built in cc)
 whole_for (commands.Work db seed count) h k found pages new facts makes = absurd (let built = facts.built in cc)
 
@@ -353,7 +418,7 @@ held_for (commands.Rows db table) h k found pages j facts same =
 held_for (commands.Check db) h k found pages j facts same =
     reads_settled (commands.Check db) pages found (present j) refl (let one : j ≡ k = cc in subst (λ (i : History). IsFound found (present i) pages) (sym one) facts.is)
 held_for (commands.Release db) h k found pages j facts makes = release_settled db h k found pages j facts makes
-held_for (commands.Prepare db lists) h k found pages j facts makes = absurd (let built = facts.built in cc)
+held_for (commands.Prepare db lists) h k found pages j facts makes = prepare_settled db lists h k found pages j facts makes
 held_for (commands.Run db scripts workers retries slots) h k found pages j facts makes = absurd (let built = facts.built in cc)
 held_for (commands.Work db seed count) h k found pages j facts makes = absurd (let built = facts.built in cc)
 
@@ -376,31 +441,42 @@ some_of c h k found pages added facts some = by_command c facts some
         (subst (IsCut (rollback_of (present h))) (sym (ap (λ (ops : List Operation). rollback_of (present h) ++ ops) none ∙ append-nil (rollback_of (present h))))
         (cut_all (rollback_of (present h))))
 
-    over_own : (db : List ℕ) → Facts (commands.Release db) h k found pages → (free : List ℕ) (own : List Operation) → AreOwn (commands.Release db) (present h) pages free own
-        → AreOwnOver (commands.Release db) (present h) free (recovered (present h)) own
-    over_own db facts free own owned =
-        subst (λ (r : Recovery). AreOwnOver (commands.Release db) (present h) free r own) (sym facts.recovers)
-        (subst (λ (b : Bool). Whether b (AreOwn (commands.Release db) (present h) pages free own) (own ≡ [])) (sym facts.wanted) owned)
+    over_own : (c : Command) → Facts c h k found pages → (free : List ℕ) (own : List Operation) → AreOwn c (present h) pages free own
+        → AreOwnOver c (present h) free (recovered (present h)) own
+    over_own c facts free own owned =
+        subst (λ (r : Recovery). AreOwnOver c (present h) free r own) (sym facts.recovers)
+        (subst (λ (b : Bool). Whether b (AreOwn c (present h) pages free own) (own ≡ [])) (sym facts.wanted) owned)
+
+    own_begun : (c : Command) → Facts c h k found pages → (free : List ℕ) (own : List Operation) → AreOwn c (present h) pages free own → IsCut own added
+        → ArePartOf c (present h) (rollback_of (present h) ++ added)
+    own_begun c facts free own owned front = record {
+      made = rollback_of (present h) ++ own;
+      free = free;
+      of = built_operations c (present h) free (rollback_of (present h) ++ own) facts.built (record { own = own; owned = over_own c facts free own owned; both = refl });
+      part = cut_behind (rollback_of (present h)) own added front;
+    }
 
     begun : (db : List ℕ) → Facts (commands.Release db) h k found pages → are_sound pages ≡ true → (part : IsPart found (present k) pages (making_first found (present k) pages) added)
         → ArePartOf (commands.Release db) (present h) (rollback_of (present h) ++ added)
     begun db facts sound part =
-        let own = making_first found (present k) pages part.free in
-        record {
-          made = rollback_of (present h) ++ own;
-          free = part.free;
-          of = built_operations (commands.Release db) (present h) part.free (rollback_of (present h) ++ own) refl (record {
-            own = own;
-            owned = over_own db facts part.free own (rw sound (making_is h k (commands.Release db) found pages part.free facts));
-            both = refl;
-          });
-          part = cut_behind (rollback_of (present h)) own added part.front;
-        }
+        own_begun (commands.Release db) facts part.free (making_first found (present k) pages part.free)
+        (rw sound (making_is h k (commands.Release db) found pages part.free facts)) part.front
+
+    prepare_begun : (db : List ℕ) (lists : ℕ) → Facts (commands.Prepare db lists) h k found pages → are_preparing lists pages ≡ true
+        → (part : IsPartPrepared found lists (present k) pages (making_and_preparing found lists (present k) pages) added)
+        → ArePartOf (commands.Prepare db lists) (present h) (rollback_of (present h) ++ added)
+    prepare_begun db lists facts writing part =
+        own_begun (commands.Prepare db lists) facts part.free (making_and_preparing found lists (present k) pages part.free)
+        (rw writing (preparing_is db lists h k found pages part.free facts)) part.front
 
     by_command : (c : Command) → Facts c h k found pages → AreSomeOwn c found (present k) pages added → ArePartOf c (present h) (rollback_of (present h) ++ added)
     by_command (commands.Rows db table) facts none = none_added (commands.Rows db table) facts none
     by_command (commands.Check db) facts none = none_added (commands.Check db) facts none
-    by_command (commands.Prepare db lists) facts none = none_added (commands.Prepare db lists) facts none
+    by_command (commands.Prepare db lists) facts some = ⊎_elim
+        (λ (none : added ≡ []). none_added (commands.Prepare db lists) facts none)
+        (λ (both : (are_preparing lists pages ≡ true) × IsPartPrepared found lists (present k) pages (making_and_preparing found lists (present k) pages) added).
+        prepare_begun db lists facts both.0 both.1)
+        some
     by_command (commands.Release db) facts some = ⊎_elim
         (λ (none : added ≡ []). none_added (commands.Release db) facts none)
         (λ (both : (are_sound pages ≡ true) × IsPart found (present k) pages (making_first found (present k) pages) added). begun db facts both.0 both.1)
@@ -418,27 +494,27 @@ part_for c h k found pages new facts some = record {
 
 -- where memory ran out behind recovery
 memory_for : (c : Command) (h k : History) (found : Recovered) (pages : List (List ℕ)) (new : Option History) → Facts c h k found pages
-    → MakesFirst c (Some k) new → MakesSome c (Some h) new
-memory_for (commands.Rows db table) h k found pages new facts same = inr (whole_for (commands.Rows db table) h k found pages new facts same)
-memory_for (commands.Check db) h k found pages new facts same = inr (whole_for (commands.Check db) h k found pages new facts same)
-memory_for (commands.Release db) h k found pages new facts (inl same) = inr (inr (record {
+    → MakesPart c (Some h) new → MakesFirst c (Some k) new → MakesSome c (Some h) new
+memory_for (commands.Rows db table) h k found pages new facts part same = inr (whole_for (commands.Rows db table) h k found pages new facts same)
+memory_for (commands.Check db) h k found pages new facts part same = inr (whole_for (commands.Check db) h k found pages new facts same)
+memory_for (commands.Release db) h k found pages new facts part (inl same) = inr (inr (record {
   made = rollback_of (present h);
   adds = subst (λ (n : Option History). Adds (Some h) n (rollback_of (present h))) (sym same) facts.more;
   holds = inl refl;
 }))
-memory_for (commands.Release db) h k found pages new facts (inr adds) = inr (inr (record {
+memory_for (commands.Release db) h k found pages new facts part (inr adds) = inr (inr (record {
   made = rollback_of (present h) ++ makings (absent_journals (present k));
   adds = adds_both (Some h) (Some k) new (rollback_of (present h)) (makings (absent_journals (present k))) facts.more adds;
   holds = inr (ap (λ (content : Content). rollback_of (present h) ++ makings (absent_journals content)) facts.rolled);
 }))
-memory_for (commands.Prepare db lists) h k found pages new facts makes = absurd (let built = facts.built in cc)
-memory_for (commands.Run db scripts workers retries slots) h k found pages new facts makes = absurd (let built = facts.built in cc)
-memory_for (commands.Work db seed count) h k found pages new facts makes = absurd (let built = facts.built in cc)
+memory_for (commands.Prepare db lists) h k found pages new facts part makes = part
+memory_for (commands.Run db scripts workers retries slots) h k found pages new facts part makes = absurd (let built = facts.built in cc)
+memory_for (commands.Work db seed count) h k found pages new facts part makes = absurd (let built = facts.built in cc)
 
 untold_some : (c : Command) (new : Option History) → MakesSome c None new
 untold_some (commands.Rows db table) new = inr tt
 untold_some (commands.Check db) new = inr tt
-untold_some (commands.Prepare db lists) new = inr tt
+untold_some (commands.Prepare db lists) new = tt
 untold_some (commands.Release db) new = inr (inl tt)
 untold_some (commands.Run db scripts workers retries slots) new = inr tt
 untold_some (commands.Work db seed count) new = inr tt
@@ -489,8 +565,8 @@ rolled_for c (Some h) mid new found outcome built headed quiet has wanted made s
     }
     by_outcome outcomes.DiskFailed own = disk_failed c (Some h) new (part_for c h (more h (rollback_of (present h))) found has.pages new facts (own.part has.pages there))
     by_outcome outcomes.NoMemory own =
-        no_memory c (Some h) new (part_for c h (more h (rollback_of (present h))) found has.pages new facts (own.part has.pages there))
-        (memory_for c h (more h (rollback_of (present h))) found has.pages new facts own.whole)
+        let part = part_for c h (more h (rollback_of (present h))) found has.pages new facts (own.part has.pages there) in
+        no_memory c (Some h) new part (memory_for c h (more h (rollback_of (present h))) found has.pages new facts part own.whole)
 
 refused_with : (told : Option History) (fault : RecoverFault) → IfTold told (λ content. recovered content ≡ Err fault) → IfTold told IsUnrecovered
 refused_with None fault is = tt

@@ -46,7 +46,7 @@ there_reply : (c : Command) (content : Content) (bytes : List ℕ) (reply : Repl
     → IsOfRecovery c (recovered content) reply → IsReplyTo c content reply
 there_reply (commands.Rows db table) content bytes reply built there is = rw there is
 there_reply (commands.Check db) content bytes reply built there is = rw there is
-there_reply (commands.Prepare db lists) content bytes reply built there is = absurd cc
+there_reply (commands.Prepare db lists) content bytes reply built there is = rw there is
 there_reply (commands.Release db) content bytes reply built there is = rw there is
 there_reply (commands.Run db scripts workers retries slots) content bytes reply built there is = absurd cc
 there_reply (commands.Work db seed count) content bytes reply built there is = absurd cc
@@ -55,15 +55,15 @@ there_reply (commands.Work db seed count) content bytes reply built there is = a
 absent_reply : (c : Command) (content : Content) → is_built c ≡ true → file_of content Database ≡ None → IsReplyTo c content replies.NoDatabase
 absent_reply (commands.Rows db table) content built absent = rw absent refl
 absent_reply (commands.Check db) content built absent = rw absent refl
-absent_reply (commands.Prepare db lists) content built absent = absurd cc
+absent_reply (commands.Prepare db lists) content built absent = rw absent refl
 absent_reply (commands.Release db) content built absent = rw absent refl
 absent_reply (commands.Run db scripts workers retries slots) content built absent = absurd cc
 absent_reply (commands.Work db seed count) content built absent = absurd cc
 
-absent_about : (c : Command) → is_built c ≡ true → IsAbout c replies.NoDatabase
+pub absent_about : (c : Command) → is_built c ≡ true → IsAbout c replies.NoDatabase
 absent_about (commands.Rows db table) built = tt
 absent_about (commands.Check db) built = tt
-absent_about (commands.Prepare db lists) built = absurd cc
+absent_about (commands.Prepare db lists) built = tt
 absent_about (commands.Release db) built = tt
 absent_about (commands.Run db scripts workers retries slots) built = absurd cc
 absent_about (commands.Work db seed count) built = absurd cc

@@ -1,16 +1,21 @@
 -- What a stop leaves of a command's operations.
-use Rattle.std.proofs.Common.{◌≡◌, ℕ, List, [], ◌∷◌, ◌++◌, true, Option, Some, None, Ok, refl, sym, ap, ◌∙◌, subst, inl, inr, ⊎_elim}
+use Rattle.std.proofs.Common.{◌≡◌, ℕ, List, [], ◌∷◌, ◌++◌, Bool, true, Option, Some, None, Ok, refl, sym, ap, ◌∙◌, subst, inl, inr, ⊎_elim}
+use Rattle.std.specs.Prelude.{◌⊎◌}
 use Rattle.spe_model.specs.declared.recovery.Recovered.{Recovered}
 use Rattle.spe_model.specs.Content.{Content}
 use Rattle.spe_model.specs.Covered.{Covered, Recovers}
 use Rattle.spe_model.specs.Database.{Database}
 use Rattle.spe_model.specs.Recovery.{recovered, recovered_header}
+use Rattle.spe_model.specs.Rollback.{rule_of}
 use Rattle.spe_model.specs.Settled.{IsFound, IsWithinLimits, KeepsPages, LeavesPages, header_in}
+use Rattle.spe_model.specs.Standing.{Whether}
 use Rattle.spe_model.specs.Trace.{Operation, History, IsCut, after, present}
 use Rattle.spe_crash.specs.Pages.{RecoveredAreHeaded}
 use Rattle.spe_disk.specs.Told.{Adds}
 use Rattle.spe_recover.specs.Recovered.{HasPages, is_wanted}
+use Rattle.spe_recover.specs.Written.{MakesCounted}
 use Rattle.spe_disk.specs.Added.{AddsSome, IfBothTold, IfTold, IfTold as IfHeld}
+use Rattle.spe_convert.specs.Prepare.{ArePrepared, CountKept, IsPartPrepared, making_and_preparing, prepared, prepared_count, with_count}
 use Rattle.spe_convert.specs.Release.{AreFound, AreReleased, IsPart, WhereFound, making_first, released}
 use Rattle.spe_verdict.specs.Law.{StandsIsTrue}
 use Rattle.spe_words.specs.declared.command.Command.{Command}
@@ -19,9 +24,11 @@ use Rattle.spe_words.specs.Grammar.{AskFor}
 use Rattle.spe_serve.specs.declared.outcome.Outcome.{Outcome}
 use Rattle.spe_serve.specs.Answer.{want_of}
 use Rattle.spe_serve.specs.Behind.{AreSomeOwn, IsOwnFor}
-use Rattle.spe_serve.specs.Own.{AreOldOrNew, HasWritten, KeepsPagesOf, LeavesPagesFor, LeavesPagesOf, StandForSame, StandOver, are_sound, found_in}
-use Rattle.spe_serve.proofs.BehindLemmas.{stands_in}
+use Rattle.spe_serve.specs.Own.{AreOldOrNew, HasWritten, IsInServerForm, KeepsPagesOf, LeavesPagesFor, LeavesPagesOf, StandForSame, StandOver, are_preparing, are_sound, found_in}
+use Rattle.spe_serve.proofs.BehindLemmas.{found_stands, stands_in}
 use Rattle.spe_serve.proofs.FileLemmas.{wanted_true}
+use Rattle.spe_serve.proofs.FormLemmas.{sound_preparing}
+use Rattle.spe_serve.proofs.ServerLemmas.{counted_as, counted_same, in_found, prepared_as}
 use Rattle.spe_serve.proofs.StockLemmas.{found_names, moved, released_as, stand_same}
 use Rattle.spe_serve.proofs.TraceLemmas.{adds_both, adds_nothing, cut_all, cut_either, after_both, covered_both, more, present_more}
 
@@ -29,7 +36,7 @@ use Rattle.spe_serve.proofs.TraceLemmas.{adds_both, adds_nothing, cut_all, cut_e
 pub old_pages : (c : Command) (content now : Content) → recovered now ≡ recovered content → AreOldOrNew c content now
 old_pages (commands.Rows db table) content now same = same
 old_pages (commands.Check db) content now same = same
-old_pages (commands.Prepare db lists) content now same = same
+old_pages (commands.Prepare db lists) content now same = inl same
 old_pages (commands.Release db) content now same = inl same
 old_pages (commands.Run db scripts workers retries slots) content now same = same
 old_pages (commands.Work db seed count) content now same = same
@@ -121,9 +128,9 @@ written db found content base now pages free facts sound same are recovers =
       pages = pages;
       recovers = sym same ∙ facts.is.recovers;
       wanted = facts.wanted;
-      sound = sound;
+      writing = sound;
       later = released (found_in 0 pages) pages free;
-      left = rw sound (record { free = free; released_are = those; later_is = refl });
+      left = inr (rw sound (record { free = free; released_are = those; later_is = refl }));
       recovers_later = recovers ∙ ap Ok later;
       same = same_for_stock pages free stands.0 stands.1 those;
     }
@@ -140,11 +147,71 @@ release_stops db found content pages own facts sound part = λ base same rest is
     inr (written db found content base (after content rest) pages part.free facts sound same new.0 new.1))
     (part.stops rest is)
 
+-- a transaction of `prepare` was made whole
+abbrev ServerAt : (lists : ℕ) (pages later : List (List ℕ)) → Bool → Type 0
+ServerAt lists pages later b = Whether b (IsInServerForm lists pages later) (later ≡ pages)
+
+prepared_written : (db : List ℕ) (lists : ℕ) (found : Recovered) (content base now : Content) (pages : List (List ℕ)) (free : List ℕ)
+    → Facts (commands.Prepare db lists) found content pages → are_sound pages ≡ true → are_preparing lists pages ≡ true → recovered content ≡ recovered base
+    → ArePrepared found lists pages free → Recovers now (prepared found lists pages free) → HasWritten (commands.Prepare db lists) base now
+prepared_written db lists found content base now pages free facts sound writing same are recovers =
+    let names = found_names found content pages facts.is in
+    let later = prepared_as found lists pages free names in
+    let stands = stands_in found content pages facts.law facts.limits facts.is sound in
+    let kept = are.keep stands.0 (found_stands found content pages stands.0 facts.is stands.1) in
+    record {
+      pages = pages;
+      recovers = sym same ∙ facts.is.recovers;
+      wanted = facts.wanted;
+      writing = writing;
+      later = prepared (found_in 0 pages) lists pages free;
+      left = inr (subst (ServerAt lists pages (prepared (found_in 0 pages) lists pages free)) (sym writing)
+          (record { free = free; prepared_are = in_found found lists pages free names are; later_is = refl }));
+      recovers_later = recovers ∙ ap Ok later;
+      same = subst (StandForSame pages) later (counted_same found (prepared_count found lists free) pages (prepared found lists pages free) stands.0 stands.1 kept.is);
+    }
+
+counted_written : (db : List ℕ) (lists : ℕ) (found : Recovered) (content base now : Content) (pages : List (List ℕ))
+    → Facts (commands.Prepare db lists) found content pages → are_sound pages ≡ true → are_preparing lists pages ≡ true → recovered content ≡ recovered base
+    → CountKept found pages → Recovers now (with_count found pages) → HasWritten (commands.Prepare db lists) base now
+counted_written db lists found content base now pages facts sound writing same kept recovers =
+    let names = found_names found content pages facts.is in
+    let later = counted_as found pages names in
+    let stands = stands_in found content pages facts.law facts.limits facts.is sound in
+    record {
+      pages = pages;
+      recovers = sym same ∙ facts.is.recovers;
+      wanted = facts.wanted;
+      writing = writing;
+      later = with_count (found_in 0 pages) pages;
+      left = inl refl;
+      recovers_later = recovers ∙ ap Ok later;
+      same = subst (StandForSame pages) later
+          (counted_same found found.pages pages (with_count found pages) stands.0 stands.1 (kept stands.0 (found_stands found content pages stands.0 facts.is stands.1)));
+    }
+
+prepare_stops : (db : List ℕ) (lists : ℕ) (found : Recovered) (content : Content) (pages : List (List ℕ)) (own : List Operation)
+    → Facts (commands.Prepare db lists) found content pages → are_preparing lists pages ≡ true
+    → IsPartPrepared found lists content pages (making_and_preparing found lists content pages) own → StopsOwn (commands.Prepare db lists) content own
+prepare_stops db lists found content pages own facts writing part = λ base same rest is. ⊎_elim
+    (λ (old : Recovers (after content rest) pages). inl (old ∙ sym facts.is.recovers ∙ same))
+    (λ (new : Recovers (after content rest) (with_count found pages) ⊎ Recovers (after content rest) (prepared found lists pages part.free)). inr (⊎_elim
+    (λ (counted : Recovers (after content rest) (with_count found pages)).
+    counted_written db lists found content base (after content rest) pages facts (sound_preparing lists pages writing) writing same part.count_kept counted)
+    (λ (all : Recovers (after content rest) (prepared found lists pages part.free)).
+    prepared_written db lists found content base (after content rest) pages part.free facts (sound_preparing lists pages writing) writing same part.prepared_are all)
+    new))
+    (part.stops rest is)
+
 own_stops : (c : Command) (found : Recovered) (content : Content) (pages : List (List ℕ)) (own : List Operation) → Facts c found content pages
     → AreSomeOwn c found content pages own → StopsOwn c content own
 own_stops (commands.Rows db table) found content pages own facts some = nothing_stops (commands.Rows db table) content own some
 own_stops (commands.Check db) found content pages own facts some = nothing_stops (commands.Check db) content own some
-own_stops (commands.Prepare db lists) found content pages own facts some = nothing_stops (commands.Prepare db lists) content own some
+own_stops (commands.Prepare db lists) found content pages own facts some = ⊎_elim
+    (λ (none : own ≡ []). nothing_stops (commands.Prepare db lists) content own none)
+    (λ (both : (are_preparing lists pages ≡ true) × IsPartPrepared found lists content pages (making_and_preparing found lists content pages) own).
+    prepare_stops db lists found content pages own facts both.0 both.1)
+    some
 own_stops (commands.Release db) found content pages own facts some = ⊎_elim
     (λ (none : own ≡ []). nothing_stops (commands.Release db) content own none)
     (λ (both : (are_sound pages ≡ true) × IsPart found content pages (making_first found content pages) own).
@@ -159,7 +226,10 @@ none_covered content own none = subst (Covered content) (sym none) tt
 own_covered : (c : Command) (found : Recovered) (content : Content) (pages : List (List ℕ)) (own : List Operation) → AreSomeOwn c found content pages own → Covered content own
 own_covered (commands.Rows db table) found content pages own some = none_covered content own some
 own_covered (commands.Check db) found content pages own some = none_covered content own some
-own_covered (commands.Prepare db lists) found content pages own some = none_covered content own some
+own_covered (commands.Prepare db lists) found content pages own some = ⊎_elim
+    (λ (none : own ≡ []). none_covered content own none)
+    (λ (both : (are_preparing lists pages ≡ true) × IsPartPrepared found lists content pages (making_and_preparing found lists content pages) own). both.1.covered)
+    some
 own_covered (commands.Release db) found content pages own some = ⊎_elim
     (λ (none : own ≡ []). none_covered content own none)
     (λ (both : (are_sound pages ≡ true) × IsPart found content pages (making_first found content pages) own). both.1.covered)
@@ -222,7 +292,7 @@ rolled_leaves c (Some h) mid new found outcome headed law limits has wanted sett
 -- the files are those that were found
 pub are_found : (old mid : Option History) (found : Recovered) → IfTold old (λ content. HasPages content found.pages)
     → IfBothTold old mid (λ content now. (pages : List (List ℕ)) → recovered content ≡ Ok pages → IsFound found now pages)
-    → (old ≡ None → mid ≡ None) → IfHeld mid (AreFound found)
-are_found None mid found has settled untold = subst (λ (m : Option History). IfHeld m (AreFound found)) (sym (untold refl)) tt
-are_found (Some h) None found has settled untold = tt
-are_found (Some h) (Some k) found has settled untold = record { pages = has.pages; is = settled has.pages has.recovers }
+    → MakesCounted old mid (λ content. rule_of content found.pages) found.ops → IfHeld mid (AreFound found)
+are_found None mid found has settled made = subst (λ (m : Option History). IfHeld m (AreFound found)) (sym made) tt
+are_found (Some h) None found has settled made = tt
+are_found (Some h) (Some k) found has settled made = record { pages = has.pages; is = settled has.pages has.recovers }

@@ -10,10 +10,10 @@ use Rattle.spe_serve.specs.Ending.{refused_for}
 use Rattle.spe_serve.specs.Reply.{IsAbout, IsPlain}
 use Rattle.spe_serve.specs.declared.reply.Reply.TheVariants as replies
 
-refused_built : (c : Command) (fault : RecoverFault) → is_built c ≡ true → IsPlain fault → IsAbout c (replies.Refused fault)
+pub refused_built : (c : Command) (fault : RecoverFault) → is_built c ≡ true → IsPlain fault → IsAbout c (replies.Refused fault)
 refused_built (commands.Rows db table) fault built plain = plain
 refused_built (commands.Check db) fault built plain = plain
-refused_built (commands.Prepare db lists) fault built plain = absurd cc
+refused_built (commands.Prepare db lists) fault built plain = plain
 refused_built (commands.Release db) fault built plain = plain
 refused_built (commands.Run db scripts workers retries slots) fault built plain = absurd cc
 refused_built (commands.Work db seed count) fault built plain = absurd cc

@@ -1,6 +1,6 @@
 -- Answers that a crash leaves right.
 use Rattle.std.proofs.Common.{◌≡◌, ℕ, List, [], length, Bool, true, false, Option, Some, None, Result, refl, sym, ap, ◌∙◌, subst, ⊎_elim}
-use Rattle.std.specs.Prelude.{is_some}
+use Rattle.std.specs.Prelude.{◌⊎◌, is_some, not}
 use Rattle.spe_model.specs.declared.file.FileNo.TheVariants as files
 use Rattle.spe_model.specs.declared.recovery.RecoverFault.{RecoverFault}
 use Rattle.spe_model.specs.declared.verdict.Verdict.{Verdict}
@@ -21,10 +21,12 @@ use Rattle.spe_verdict.specs.Law.{AreUnbroken, LegalStandingAreUnbroken, StandFo
 use Rattle.spe_words.specs.declared.command.Command.{Command}
 use Rattle.spe_words.specs.declared.command.Command.TheVariants as commands
 use Rattle.spe_serve.specs.declared.reply.Reply.{Reply}
-use Rattle.spe_serve.specs.Answer.{IsOfFile, IsOfRecovery, IsOfSound, IsOfStanding, IsOfVerdict, IsOverRecovered, IsOverWanted, IsReplyTo, reply_of_table}
+use Rattle.spe_serve.specs.Answer.{IsOfFile, IsOfRecovery, IsOfSound, IsOfStanding, IsOfVerdict, IsOverFound, IsOverRecovered, IsOverWanted, reply_of_table}
 use Rattle.spe_serve.specs.Ending.{AnswersStay, Stays, is_lasting}
-use Rattle.spe_serve.specs.Own.{AreOldOrNew, HasWritten, LeavesPagesFor, StandOver, are_sound, is_standing}
+use Rattle.spe_serve.specs.Own.{AreOldOrNew, HasWritten, LeavesPagesFor, StandOver, are_sound, is_standing, is_writing}
+use Rattle.spe_serve.specs.Reply.{is_done}
 use Rattle.spe_serve.proofs.CrashLemmas.{after_there, cut_absent}
+use Rattle.spe_serve.proofs.FormLemmas.{sound_preparing}
 
 -- pages that stand for a database break no rule
 unbroken : (count : ℕ) (usable : ℕ) (pages : Paging) → AreUnbroken usable count pages → is_standing (verdict_of usable count pages) ≡ true
@@ -48,12 +50,21 @@ rows_standing : (name : List ℕ) (usable count : ℕ) (pages : Paging) (v : Ver
 rows_standing name usable count pages (verdicts.Stands tables rows free) reply is of = of
 rows_standing name usable count pages (verdicts.Broken page rule) reply is of = absurd cc
 
+-- a command writes only where no rule is broken
+sound_writing : (c : Command) (pages : List (List ℕ)) → is_writing c pages ≡ true → are_sound pages ≡ true
+sound_writing (commands.Rows db table) pages writing = absurd cc
+sound_writing (commands.Check db) pages writing = absurd cc
+sound_writing (commands.Prepare db lists) pages writing = sound_preparing lists pages writing
+sound_writing (commands.Release db) pages writing = writing
+sound_writing (commands.Run db scripts workers retries slots) pages writing = absurd cc
+sound_writing (commands.Work db seed count) pages writing = absurd cc
+
 -- over new pages that stand for the same database they are the same
 rows_over : (c : Command) (content now : Content) (db table : List ℕ) (reply : Reply) → RecoveredAreHeaded → LegalStandingAreUnbroken → StandForOne
     → (written : HasWritten c content now) → IsOverRecovered (commands.Rows db table) written.pages reply → IsOverRecovered (commands.Rows db table) written.later reply
 rows_over c content now db table reply headed law one written of =
     let old = written.pages in let new = written.later in
-    let was = standing_rows table (usable_in (header_in old)) (length old) (page_in old) _ reply written.sound of in
+    let was = standing_rows table (usable_in (header_in old)) (length old) (page_in old) _ reply (sound_writing c old written.writing) of in
     rows_standing table (usable_in (header_in new)) (length new) (page_in new) _ reply
     (sound_now now new written.same.db headed law written.recovers_later written.same.now)
     (record {
@@ -93,7 +104,10 @@ rows_by : (c : Command) (content now : Content) (db table : List ℕ) (reply : R
     → AreOldOrNew c content now → Carries (commands.Rows db table) content now reply
 rows_by (commands.Rows file name) content now db table reply headed law one same = same_carries (commands.Rows db table) content now reply same
 rows_by (commands.Check file) content now db table reply headed law one same = same_carries (commands.Rows db table) content now reply same
-rows_by (commands.Prepare file lists) content now db table reply headed law one same = same_carries (commands.Rows db table) content now reply same
+rows_by (commands.Prepare file lists) content now db table reply headed law one either = ⊎_elim
+    (λ (same : recovered now ≡ recovered content). same_carries (commands.Rows db table) content now reply same)
+    (λ (written : HasWritten (commands.Prepare file lists) content now). rows_carry (commands.Prepare file lists) content now db table reply headed law one written)
+    either
 rows_by (commands.Release file) content now db table reply headed law one either = ⊎_elim
     (λ (same : recovered now ≡ recovered content). same_carries (commands.Rows db table) content now reply same)
     (λ (written : HasWritten (commands.Release file) content now). rows_carry (commands.Release file) content now db table reply headed law one written)
@@ -107,11 +121,23 @@ sound_refusal : (usable count : ℕ) (pages : Paging) (v : Verdict) (reply : Rep
 sound_refusal usable count pages (verdicts.Stands tables rows free) reply is lasting of = let done = ap (is_lasting (commands.Release [])) of.reply_is in cc
 sound_refusal usable count pages (verdicts.Broken page rule) reply is lasting of = cc
 
-refusal_carries : (db : List ℕ) (content now : Content) (reply : Reply) → is_lasting (commands.Release db) reply ≡ true → HasWritten (commands.Release db) content now
-    → Carries (commands.Release db) content now reply
-refusal_carries db content now reply lasting written = λ is. absurd (sound_refusal (usable_in (header_in written.pages)) (length written.pages) (page_in written.pages) _ reply written.sound lasting
-    (subst (λ (b : Bool). IsOverWanted (commands.Release db) written.pages b reply) written.wanted
-    (subst (λ (r : Result (List (List ℕ)) RecoverFault). IsOfRecovery (commands.Release db) r reply) written.recovers is)))
+-- nor is one of `prepare`
+done_lasting : (db : List ℕ) (lists : ℕ) (reply : Reply) → is_done reply ≡ true → is_lasting (commands.Prepare db lists) reply ≡ true → ⊥
+done_lasting db lists reply done lasting = let never : not true ≡ true = ap not (sym done) ∙ lasting in cc
+
+never_refused : (c : Command) (pages : List (List ℕ)) (reply : Reply) → is_writing c pages ≡ true → is_lasting c reply ≡ true → IsOverFound c pages reply → ⊥
+never_refused (commands.Rows db table) pages reply writing lasting is = cc
+never_refused (commands.Check db) pages reply writing lasting is = cc
+never_refused (commands.Prepare db lists) pages reply writing lasting is = done_lasting db lists reply (ap is_done is ∙ writing) lasting
+never_refused (commands.Release db) pages reply writing lasting is =
+    sound_refusal (usable_in (header_in pages)) (length pages) (page_in pages) _ reply writing lasting is
+never_refused (commands.Run db scripts workers retries slots) pages reply writing lasting is = cc
+never_refused (commands.Work db seed count) pages reply writing lasting is = cc
+
+refusal_carries : (c : Command) (content now : Content) (reply : Reply) → is_lasting c reply ≡ true → HasWritten c content now → Carries c content now reply
+refusal_carries c content now reply lasting written = λ is. absurd (never_refused c written.pages reply written.writing lasting
+    (subst (λ (b : Bool). IsOverWanted c written.pages b reply) written.wanted
+    (subst (λ (r : Result (List (List ℕ)) RecoverFault). IsOfRecovery c r reply) written.recovers is)))
 
 pub answers_stay : (words : List (List ℕ)) (old new : Option History) → RecoveredAreHeaded → LegalStandingAreUnbroken → StandForOne
     → LeavesPagesFor words old new → AnswersStay words old new
@@ -129,14 +155,14 @@ answers_stay words (Some h) new headed law one leaves = record {
     file_stays c cut is reply carries =
         carried c (present h) (after (present h) cut) reply carries (after_there cut (present h)) (cut_absent leaves.made cut (present h) leaves.covered is)
 
-    release_stays : (db : List ℕ) (cut : List Operation) → IsCut leaves.made cut → AreOldOrNew (commands.Release db) (present h) (after (present h) cut) → (reply : Reply) (lasting : Bool)
-        → is_lasting (commands.Release db) reply ≡ lasting
-        → Whether lasting (IsReplyTo (commands.Release db) (present h) reply → IsReplyTo (commands.Release db) (after (present h) cut) reply) (Unit {0})
-    release_stays db cut is either reply false lasting = tt
-    release_stays db cut is either reply true lasting = file_stays (commands.Release db) cut is reply (⊎_elim
-        (λ (same : recovered (after (present h) cut) ≡ recovered (present h)). same_carries (commands.Release db) (present h) (after (present h) cut) reply same)
-        (λ (written : HasWritten (commands.Release db) (present h) (after (present h) cut)).
-        refusal_carries db (present h) (after (present h) cut) reply lasting written)
+    writing_stays : (c : Command) (cut : List Operation) → IsCut leaves.made cut
+        → (recovered (after (present h) cut) ≡ recovered (present h)) ⊎ HasWritten c (present h) (after (present h) cut) → (reply : Reply) (lasting : Bool)
+        → is_lasting c reply ≡ lasting
+        → Whether lasting (IsOfFile c (present h) (file_of (present h) files.Database) reply → IsOfFile c (after (present h) cut) (file_of (after (present h) cut) files.Database) reply) (Unit {0})
+    writing_stays c cut is either reply false lasting = tt
+    writing_stays c cut is either reply true lasting = file_stays c cut is reply (⊎_elim
+        (λ (same : recovered (after (present h) cut) ≡ recovered (present h)). same_carries c (present h) (after (present h) cut) reply same)
+        (λ (written : HasWritten c (present h) (after (present h) cut)). refusal_carries c (present h) (after (present h) cut) reply lasting written)
         either)
 
     command_stays : (c : Command) → ((cut : List Operation) → IsCut leaves.made cut → AreOldOrNew c (present h) (after (present h) cut)) → Stays c (present h) leaves.made
@@ -144,7 +170,7 @@ answers_stay words (Some h) new headed law one leaves = record {
         file_stays (commands.Rows db table) cut is reply (same_carries (commands.Rows db table) (present h) (after (present h) cut) reply (stops cut is))
     command_stays (commands.Check db) stops = λ cut is reply.
         file_stays (commands.Check db) cut is reply (same_carries (commands.Check db) (present h) (after (present h) cut) reply (stops cut is))
-    command_stays (commands.Prepare db lists) stops = λ cut is reply same. same
-    command_stays (commands.Release db) stops = λ cut is reply. release_stays db cut is (stops cut is) reply (is_lasting (commands.Release db) reply) refl
+    command_stays (commands.Prepare db lists) stops = λ cut is reply. writing_stays (commands.Prepare db lists) cut is (stops cut is) reply (is_lasting (commands.Prepare db lists) reply) refl
+    command_stays (commands.Release db) stops = λ cut is reply. writing_stays (commands.Release db) cut is (stops cut is) reply (is_lasting (commands.Release db) reply) refl
     command_stays (commands.Run db scripts workers retries slots) stops = λ cut is reply same. same
     command_stays (commands.Work db seed count) stops = λ cut is reply same. same

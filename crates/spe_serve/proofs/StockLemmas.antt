@@ -139,7 +139,7 @@ unless_is : (o : Option HeaderFault) (x h : Header) → unless o x ≡ Ok h → 
 unless_is None x h is = cc
 unless_is (Some fault) x h is = absurd cc
 
-header_is : (later : List (List ℕ)) (h : Header) → header_of (take 100 (page_in later 1)) ≡ Ok h → h ≡ header_in later
+pub header_is : (later : List (List ℕ)) (h : Header) → header_of (take 100 (page_in later 1)) ≡ Ok h → h ≡ header_in later
 header_is later h is = unless_is _ (fields (take 100 (page_in later 1))) h is
 
 -- the new pages stand for the database of the old ones

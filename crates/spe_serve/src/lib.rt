@@ -1,7 +1,7 @@
 //! The commands of the program: `spe` does all that the program does.
 //!
-//! So far that is `check` and `rows`, over any database, and `release`, over one in server form. Its
-//! contract names the bytes that are printed, the status, what may have gone wrong outside where it is 3,
+//! So far that is `check`, `rows` and `prepare`, over any database, and `release`, over one in server form.
+//! Its contract names the bytes that are printed, the status, what may have gone wrong outside where it is 3,
 //! the operations that were made on the files, and what the files hold then.
 #![tactic(auto)]
 
@@ -10,13 +10,14 @@ mod failure;
 mod file;
 mod outcome;
 mod pages;
+mod prepare;
 mod release;
 mod reply;
 mod row;
 mod serve;
 mod table;
-mod tallied;
 mod verdict;
+mod writing;
 
 pub use serve::{Finished, spe};
 pub use spe_model::Words;

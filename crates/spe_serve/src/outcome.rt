@@ -1,7 +1,7 @@
 //! What the program does with its words, up to printing.
 
 ghost use Rattle.std.specs.Prelude.{◌≡◌, false, true};
-ghost use Rattle.spe_serve.specs.Answer.{is_built};
+ghost use Rattle.spe_serve.specs.Answer.{HasLists, is_built};
 ghost use Rattle.spe_words.specs.Grammar.{AskFor};
 ghost use Rattle.spe_serve.specs.Ending.{DiskFails, IsOutcome, IsOutcomeOf, outcome_of};
 ghost use Rattle.spe_serve.specs.Made.{IsMadeFor};
@@ -45,6 +45,7 @@ fn file_outcome<D: Disk>(
     mut disk: D,
 ) -> (Outcome, D)
     requires built { is_built command.now ≡ true }
+    requires lists { HasLists command.now }
     requires attached { D.attached disk ≡ false }
     ensures outcome { IsOutcomeOf command.now (D.told disk) (DiskFails D.Disk disk result.1) result.0 }
     ensures made { IsMadeFor command.now (D.told disk) (D.told result.1) result.0 }
@@ -63,7 +64,8 @@ fn file_outcome<D: Disk>(
 // The outcome of a command.
 #[tactic(auto, using(crate::proofs::OwnLemmas::unbuilt_leaves, crate::proofs::MadeLemmas::unbuilt_for))]
 fn obey<D: Disk>(alloc: Global, command: &Command, disk: D) -> (Outcome, D)
-    requires { D.attached disk ≡ false }
+    requires lists { HasLists command.now }
+    requires attached { D.attached disk ≡ false }
     ensures outcome { IsOutcomeOf command.now (D.told disk) (DiskFails D.Disk disk result.1) result.0 }
     ensures made { IsMadeFor command.now (D.told disk) (D.told result.1) result.0 }
     ensures leaves { LeavesPagesOf command.now (D.told disk) (D.told result.1) }
@@ -72,7 +74,7 @@ fn obey<D: Disk>(alloc: Global, command: &Command, disk: D) -> (Outcome, D)
         Command::Rows { db, .. } => file_outcome(alloc, db, command, disk),
         Command::Check { db } => file_outcome(alloc, db, command, disk),
         Command::Release { db } => file_outcome(alloc, db, command, disk),
-        Command::Prepare { .. } => (Outcome::Answered(Reply::NotBuilt), disk),
+        Command::Prepare { db, .. } => file_outcome(alloc, db, command, disk),
         Command::Run { .. } => (Outcome::Answered(Reply::NotBuilt), disk),
         Command::Work { .. } => (Outcome::Answered(Reply::NotBuilt), disk),
     }

@@ -60,6 +60,7 @@ pub fn pages_reply<D: Disk, K: Origin>(
     requires attached { D.attached disk ≡ true }
     requires told { D.told disk ≡ K.told }
     requires faults { D.read_faults disk ≡ K.faults }
+    requires operations { D.op_faults disk ≡ K.ops }
     ensures reply { IfOk result.0 (λ reply. WhereFound (D.told disk) found.now (λ content pages. IsOverFound command.now pages reply)) }
     ensures about { IfOk result.0 (IsAbout command.now) }
     ensures same { D.told result.1 ≡ D.told disk }
@@ -83,11 +84,13 @@ pub fn pages_verdict<D: Disk, K: Origin>(
     requires attached { D.attached disk ≡ true }
     requires told { D.told disk ≡ K.told }
     requires faults { D.read_faults disk ≡ K.faults }
+    requires operations { D.op_faults disk ≡ K.ops }
     ensures reply { IfOk result.0 (λ reply. WhereFound (D.told disk) found.now (λ content pages. IsOverFound (commands.Check []) pages reply)) }
     ensures about { IfOk result.0 IsAboutVerdict }
     ensures same { D.told result.1 ≡ D.told disk }
     ensures attached { D.attached result.1 ≡ true }
     ensures later { D.read_faults disk ≤ D.read_faults result.1 }
+    ensures operations { D.op_faults result.1 ≡ D.op_faults disk }
     ensures cause { IfErr result.0 (IsCausedBy (D.read_faults disk) (D.read_faults result.1)) }
 {
     found_pages();

@@ -46,6 +46,17 @@ pub enum Reply {
         free: u32,
         pages: u32,
     },
+    /// The free lists are in server form, so many of them, and there are so many pages.
+    Prepared {
+        lists: u32,
+        pages: u32,
+    },
+    /// The free lists are in server form as they are.
+    AlreadyPrepared,
+    /// With the pages to be added the file would be too large; there are so many.
+    Full {
+        pages: u32,
+    },
 }
 
 fn fault_number(fault: HeaderFault) -> u8
@@ -155,6 +166,30 @@ pub fn released_line(alloc: Global, free: u32, pages: u32) -> Result<Vec<u8>, Al
     Ok(out)
 }
 
+/// The line that says how many free lists there are in server form, and how many pages.
+pub fn prepared_line(alloc: Global, lists: u32, pages: u32) -> Result<Vec<u8>, AllocError>
+    ensures { IfOk result (λ v. v.items ≡ line (prepared_counts lists pages)) }
+{
+    let mut out = Vec::new(alloc);
+    out.extend_from_slice(b"prepared lists ")?;
+    put_number(&mut out, u64::from(lists))?;
+    out.extend_from_slice(b" pages ")?;
+    put_number(&mut out, u64::from(pages))?;
+    out.push(b'\n')?;
+    Ok(out)
+}
+
+/// The line that says that the pages to be added would make the file too large.
+pub fn full_line(alloc: Global, pages: u32) -> Result<Vec<u8>, AllocError>
+    ensures { IfOk result (λ v. v.items ≡ line (codes "refused full " ++ decimal pages)) }
+{
+    let mut out = Vec::new(alloc);
+    out.extend_from_slice(b"refused full ")?;
+    put_number(&mut out, u64::from(pages))?;
+    out.push(b'\n')?;
+    Ok(out)
+}
+
 /// The line that names the first page that breaks a rule, and the rule.
 pub fn damage_line(alloc: Global, page: u32, rule: u8) -> Result<Vec<u8>, AllocError>
     ensures { IfOk result (λ v. v.items ≡ line (codes "damage " ++ pair page rule)) }
@@ -190,4 +225,4 @@ pub fn closed_line(alloc: Global, why: Closed) -> Result<Vec<u8>, AllocError>
 
 ghost use Rattle.std.specs.Fmt.{decimal};
 ghost use Rattle.spe_render.specs.Values.{line};
-ghost use Rattle.spe_serve.specs.Reply.{pair, reason, counts, released_counts};
+ghost use Rattle.spe_serve.specs.Reply.{pair, reason, counts, prepared_counts, released_counts};

@@ -12,7 +12,8 @@ ghost use Rattle.spe_serve.specs.Reply.{AskForNone};
 
 use crate::outcome::{Outcome, carry_out};
 use crate::reply::{
-    Reply, closed_line, corrupt_line, damage_line, refusal_line, released_line, sound_line,
+    Reply, closed_line, corrupt_line, damage_line, full_line, prepared_line, refusal_line,
+    released_line, sound_line,
 };
 use spe_crash::recovered_pages;
 use spe_disk::{Disk, Failed, Gate, Scripts, Sink, put_all};
@@ -95,6 +96,11 @@ fn put_answer<W: Sink>(alloc: Global, out: &mut W, reply: &Reply) -> u8
         Reply::NoTable => put(out, b"refused no-table\n", REFUSED),
         Reply::ClosedTable(why) => put_made(out, closed_line(alloc, *why), REFUSED),
         Reply::Released { free, pages } => put_made(out, released_line(alloc, *free, *pages), DONE),
+        Reply::Prepared { lists, pages } => {
+            put_made(out, prepared_line(alloc, *lists, *pages), DONE)
+        }
+        Reply::AlreadyPrepared => put(out, b"refused prepared\n", REFUSED),
+        Reply::Full { pages } => put_made(out, full_line(alloc, *pages), REFUSED),
         Reply::Rows(rows) => put_rows(out, rows),
     }
 }
@@ -126,11 +132,13 @@ fn run<D: Disk, W: Sink>(alloc: Global, words: &Words, disk: D, out: &mut W) -> 
 /// Does all that the program does with the words of its command line, the program's own name left
 /// out.
 ///
-/// So far three commands are built. All roll back what hot journals there are, and then try whether the
+/// So far four commands are built. All roll back what hot journals there are, and then try whether the
 /// pages are sound. `check DATABASE` prints the verdict; `rows DATABASE TABLE` prints the rows of an
 /// open table, and refuses damaged pages, a table that there is not, and a closed one, in this order.
 /// `release DATABASE` puts the free lists back in stock form, and refuses a database that is not in
-/// server form, of which it rolls back nothing, and then damaged pages.
+/// server form, of which it rolls back nothing, and then damaged pages. `prepare DATABASE LISTS` puts them
+/// in server form, and refuses damaged pages, then those in server form, and then those that would be too
+/// many with what is to be added.
 /// Other commands are answered as not built, and their database is not looked at. Words that are no
 /// command are refused before all else.
 pub fn spe<R: Threads + Wait + Sync, D: Disk + Send, C: Scripts, W: Sink, G: Gate + Sync>(
@@ -162,7 +170,7 @@ pub fn spe<R: Threads + Wait + Sync, D: Disk + Send, C: Scripts, W: Sink, G: Gat
     ensures made { result.0.status ≢ 3 → result.0.status ≢ 4 → (c : Command) → AskFor words c → MakesAll c (D.told disk) (D.told result.1) }
     ensures settled { result.0.status ≢ 3 → result.0.status ≢ 4 → (c : Command) → AskFor words c → is_built c ≡ true → Settles c (D.told disk) (D.told result.1) }
 
-    // Of what a crash leaves of it the recovered pages are as before, or those after the command's whole transaction. A
+    // Of what a crash leaves of it the recovered pages are as before, or those after a whole transaction of the command. A
     // right answer stays right, but for one that tells of a transaction, and so do the rows of each table.
     ensures leaves { LeavesPagesFor words (D.told disk) (D.told result.1) }
     ensures crash { AnswersStay words (D.told disk) (D.told result.1) }

@@ -27,6 +27,24 @@ pub fn disk_of(alloc: Global, file: &[u8], op: u64, made: bool) -> Result<MemDis
         ops: Numbers::new(Vec::from_slice(alloc, &[op])?),
         made,
     };
+    disk_with(alloc, file, faults)
+}
+
+/// A disk with this file, of which this reading call fails.
+pub fn disk_reading(alloc: Global, file: &[u8], read: u64) -> Result<MemDisk, AllocError>
+    ensures { IfOk result (λ d. is_attached d ≡ false) }
+{
+    let faults = Faults {
+        reads: Numbers::new(Vec::from_slice(alloc, &[read])?),
+        ops: Numbers::new(Vec::new(alloc)),
+        made: false,
+    };
+    disk_with(alloc, file, faults)
+}
+
+fn disk_with(alloc: Global, file: &[u8], faults: Faults) -> Result<MemDisk, AllocError>
+    ensures { IfOk result (λ d. is_attached d ≡ false) }
+{
     let mut disk = MemDisk::new(alloc, 1 << 20, 64, faults)?;
     let _ = disk.load(FileNo::Database, file);
     Ok(disk)

@@ -40,7 +40,6 @@ static WORDS: [(&[&str], u8, &str); 18] = [
     (&["check", "d.db", "t"], 1, "refused words\n"),
     (&["check", "d.db", "--workers=1"], 1, "refused words\n"),
     // commands to come
-    (&["prepare", "b.db", "2"], 2, "refused not-built\n"),
     (&["run", "b.db", "s"], 2, "refused not-built\n"),
     (&["work", "b.db", "1", "100"], 2, "refused not-built\n"),
 ];

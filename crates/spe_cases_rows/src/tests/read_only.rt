@@ -1,7 +1,7 @@
 //! The pages of a file, as a space that can only be read.
 
 ghost use Rattle.std.specs.Prelude.{◌≡◌, true, false, Some};
-ghost use Rattle.spe_disk.specs.Memory.{history_of, is_attached, read_fault_count};
+ghost use Rattle.spe_disk.specs.Memory.{history_of, is_attached, op_fault_count, read_fault_count};
 ghost use Rattle.spe_model.specs.Settled.{IsWithinLimits};
 
 use super::files::two;
@@ -133,6 +133,7 @@ fn expect_of<R: Abort, K: Origin>(
     requires attached { is_attached disk ≡ true }
     requires told { Some (history_of disk) ≡ K.told }
     requires faults { read_fault_count disk ≡ K.faults }
+    requires operations { op_fault_count disk ≡ K.ops }
 {
     let mut space = DiskSpace::<MemDisk, K>::new(disk, found);
     expect_answers(rt, alloc, &mut space)

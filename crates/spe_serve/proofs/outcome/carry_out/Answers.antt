@@ -2,6 +2,7 @@ use Rattle.std.proofs.Common.{ap, inl, refl, Err}
 use Rattle.spe_serve.proofs.MadeLemmas.{asked_for, never_read}
 use Rattle.spe_serve.proofs.OutcomeLemmas.{is_asked}
 use Rattle.spe_serve.proofs.OwnLemmas.{asked_leaves}
+use Rattle.spe_serve.proofs.WordLemmas.{asked_lists}
 use Rattle.spe_serve.proofs.outcome.carry_out.Goals as goal
 
 pub returns-in-Ok-clause-outcome : goal.returns-in-Ok-clause-outcome
@@ -24,3 +25,6 @@ returns-in-Err-Memory-clause-made g c = λ d asked. never_read d (g.D.Disk.told 
 
 pub returns-in-Ok-clause-leaves : goal.returns-in-Ok-clause-leaves
 returns-in-Ok-clause-leaves g c = asked_leaves c.args.words.now c.in-Ok.command _ _ c.in-Ok.ensures.command c.in-Ok.ensures.no_other c.obey.ensures.leaves
+
+pub obey-requires-clause-lists : goal.obey-requires-clause-lists
+obey-requires-clause-lists g c = asked_lists c.args.words.now c.in-Ok.command c.in-Ok.ensures.command

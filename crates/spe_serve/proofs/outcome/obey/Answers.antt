@@ -3,9 +3,6 @@ use Rattle.spe_serve.specs.declared.reply.Reply.TheVariants.{NotBuilt}
 use Rattle.spe_serve.proofs.MadeLemmas.{unbuilt_for}
 use Rattle.spe_serve.proofs.outcome.obey.Goals as goal
 
-pub returns-in-Prepare-clause-made : goal.returns-in-Prepare-clause-made
-returns-in-Prepare-clause-made g c = unbuilt_for c.args.command.now (g.D.Disk.told c.args.disk) NotBuilt (rw c.in-Prepare.is refl)
-
 pub returns-in-Run-clause-made : goal.returns-in-Run-clause-made
 returns-in-Run-clause-made g c = unbuilt_for c.args.command.now (g.D.Disk.told c.args.disk) NotBuilt (rw c.in-Run.is refl)
 
