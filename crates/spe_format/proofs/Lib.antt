@@ -1,6 +1,12 @@
 pub mod VarintLemmas
 pub mod SpliceLemmas
 pub mod CanonicalLemmas
+pub mod SpelledLemmas
+pub mod ContentLemmas
+pub mod SlotLemmas
+pub mod PackedLemmas
+pub mod MoveLemmas
+pub mod PutLemmas
 pub mod CellLemmas
 pub mod ReadBackLemmas
 pub mod WritableLemmas

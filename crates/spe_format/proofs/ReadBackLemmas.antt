@@ -26,7 +26,7 @@ two_bytes : (n : ℕ) → n < 65536 → n / 256 % 256 * 256 + n % 256 ≡ n
 two_bytes n fits = omega arith
 
 -- the array holds the offsets
-numbers_starts : (kind : Kind) (end : ℕ) (cells : List Cell) → cells_length kind cells ≤ end → end ≤ 65536
+pub numbers_starts : (kind : Kind) (end : ℕ) (cells : List Cell) → cells_length kind cells ≤ end → end ≤ 65536
     → numbers (flat_map (λ offset. big_bytes 2 offset) (starts kind end cells)) ≡ starts kind end cells
 numbers_starts kind end [] fits high = refl
 numbers_starts kind end (c ∷ cs) fits high =
@@ -132,24 +132,22 @@ order_is IndexInterior cells up = refl
 abbrev ok_page : PageCells → Result PageCells PageFault
 ok_page x = Ok x
 
--- what a page reads as whose parts are these
-parts_read : (page front head : List ℕ) (at usable : ℕ) (p : PageCells) → length front ≡ at → array_start p.kind at + (2 * length p.cells + cells_length p.kind p.cells) ≤ usable
-    → usable ≤ 65536 → IsWritable p usable → AreInRange p.cells → page ≡ front ++ (header_bytes p usable ++ body_bytes p.kind usable (usable - used p at) p.cells)
+-- what a page reads as whose offsets and cells stand so, whatever is ahead of them and between them
+pub layout_reads : (page ahead unused : List ℕ) (at usable : ℕ) (p : PageCells) → length ahead ≡ array_start p.kind at
+    → array_start p.kind at + (2 * length p.cells + (length unused + cells_length p.kind p.cells)) ≡ usable → usable ≤ 65536 → IsWritable p usable → AreInRange p.cells
+    → page ≡ ahead ++ (flat_map (λ offset. big_bytes 2 offset) (starts p.kind usable p.cells) ++ (unused ++ content p.kind p.cells))
     → cell_count page at ≡ length p.cells → right_at p.kind page at ≡ p.right
     → page_of_kind (Some p.kind) page at ≡ Ok p
-parts_read page front head at usable p long fits high w r e count right =
+layout_reads page ahead unused at usable p long whole high w r e count right =
     let kind = p.kind in
     let cells = p.cells in
     let array : List ℕ = flat_map (λ offset. big_bytes 2 offset) (starts kind usable cells) in
-    let unused : List ℕ = replicate (usable - used p at) 0 in
-    let start = header_length p at usable in
-    let ahead : length (front ++ header_bytes p usable) ≡ array_start kind at = rw length-append (omega arith) in
-    let body = body_bytes kind usable (usable - used p at) cells in
-    let shape : front ++ (header_bytes p usable ++ body) ≡ (front ++ header_bytes p usable) ++ body = simp append_assoc in
-    let all : front ++ (header_bytes p usable ++ body) ≡ (((front ++ header_bytes p usable) ++ array) ++ unused) ++ (content kind cells ++ []) = simp (append_assoc, append-nil) in
-    let size : length page ≡ usable = ap length (e ∙ shape) ∙ rw (length-append, ahead, body_length kind usable (usable - used p at) cells) (omega arith) in
+    let body : List ℕ = array ++ (unused ++ content kind cells) in
+    let all : ahead ++ body ≡ ((ahead ++ array) ++ unused) ++ (content kind cells ++ []) = simp (append_assoc, append-nil) in
+    let behind : drop (array_start kind at) page ≡ body = ap (drop (array_start kind at)) e ∙ drop_at ahead body (array_start kind at) long in
+    let size : length page ≡ usable =
+    ap length e ∙ rw (length-append, length-append, length-append, long, starts_length kind usable cells, content_length kind cells) (omega (arith, whole)) in
     let end : array_end kind page at ≡ array_start kind at + 2 * length cells = ap (λ (n : ℕ). array_start kind at + 2 * n) count in
-    let behind : drop (array_start kind at) page ≡ body = ap (drop (array_start kind at)) (e ∙ shape) ∙ drop_at (front ++ header_bytes p usable) body (array_start kind at) ahead in
     let few : array_start kind at + 2 * length cells - array_start kind at ≡ 2 * length cells = omega arith in
     let slots : slice_range page (array_start kind at) (array_start kind at + 2 * length cells) ≡ array =
     rw (behind, few) (take_at array (unused ++ content kind cells) (2 * length cells) (starts_length kind usable cells)) in
@@ -158,12 +156,25 @@ parts_read page front head at usable p long fits high w r e count right =
     let room : nat_lt (length page) (array_end kind page at) ≡ false = le-ltb (length page) (array_end kind page at) (omega (arith, end, size)) in
     let within : list_all (is_within (array_end kind page at) (length page)) (offsets_at kind page at) ≡ true =
     rw (offsets, end, size) (starts_within kind (array_start kind at + 2 * length cells) usable usable cells (omega arith) (omega arith)) in
-    let before : length (((front ++ header_bytes p usable) ++ array) ++ unused) + cells_length kind cells ≡ usable =
-    rw (length-append, length-append, ahead, starts_length kind usable cells, length-replicate) (omega arith) in
+    let before : length ((ahead ++ array) ++ unused) + cells_length kind cells ≡ usable =
+    rw (length-append, length-append, long, starts_length kind usable cells) (omega (arith, whole)) in
     let placed : placed_all kind (length page) page (offsets_at kind page at) ≡ Some (cells, spans kind usable cells) =
-    rw (offsets, size) (placed_starts kind usable page (((front ++ header_bytes p usable) ++ array) ++ unused) [] usable cells w.cells r (e ∙ all) before) in
+    rw (offsets, size) (placed_starts kind usable page ((ahead ++ array) ++ unused) [] usable cells w.cells r (e ∙ all) before) in
     page_is kind page at cells (spans kind usable cells) room within placed (spans_apart kind usable cells) (order_is kind cells w.ascends)
     ∙ ap (λ (n : ℕ). ok_page (record { kind = kind; cells = cells; right = n })) right
+
+-- what a page reads as whose parts are these
+parts_read : (page front : List ℕ) (at usable : ℕ) (p : PageCells) → length front ≡ at → array_start p.kind at + (2 * length p.cells + cells_length p.kind p.cells) ≤ usable
+    → usable ≤ 65536 → IsWritable p usable → AreInRange p.cells → page ≡ front ++ (header_bytes p usable ++ body_bytes p.kind usable (usable - used p at) p.cells)
+    → cell_count page at ≡ length p.cells → right_at p.kind page at ≡ p.right
+    → page_of_kind (Some p.kind) page at ≡ Ok p
+parts_read page front at usable p long fits high w r e count right =
+    let unused : List ℕ = replicate (usable - used p at) 0 in
+    let start = header_length p at usable in
+    let ahead : length (front ++ header_bytes p usable) ≡ array_start p.kind at = rw length-append (omega arith) in
+    let gap : length unused ≡ usable - used p at = length-replicate {A = ℕ} (usable - used p at) 0 in
+    let shape : front ++ (header_bytes p usable ++ body_bytes p.kind usable (usable - used p at) p.cells) ≡ (front ++ header_bytes p usable) ++ body_bytes p.kind usable (usable - used p at) p.cells = simp append_assoc in
+    layout_reads page (front ++ header_bytes p usable) unused at usable p ahead (omega (arith, gap)) high w r (e ∙ shape) count right
 
 pub canonical_length : (p : PageCells) (at usable : ℕ) → used p at ≤ usable → at + length (canonical p at usable) ≡ usable
 canonical_length p at usable fits =
@@ -180,7 +191,7 @@ front_reads front p at usable long fits high w r right =
     let count = count_is front (body_bytes p.kind usable (usable - used p at) p.cells) at p usable long (omega arith) in
     let last = right_is front (body_bytes p.kind usable (usable - used p at) p.cells) at p.kind p.cells p.right usable long w.right right in
     ap (λ (n : ℕ). page_of_kind (kind_of n) page at) byte ∙ ap (λ (k : Option Kind). page_of_kind k page at) (kind_is p.kind)
-    ∙ parts_read page front [] at usable p long fits high w r refl count last
+    ∙ parts_read page front at usable p long fits high w r refl count last
 
 -- the page as it was written
 pub written_reads : (page old : List ℕ) (p : PageCells) (at usable : ℕ) → used p at ≤ usable → usable ≤ 65536 → usable ≤ length old → IsWritable p usable → AreInRange p.cells → p.right < 2 ^ 32

@@ -93,3 +93,15 @@ five_parts at p q r s a b c d e old one two three four five pa qb rc sd within f
     let fifth : five ≡ splice at ((((a ++ b) ++ c) ++ d) ++ e) old = then_splice at s (((a ++ b) ++ c) ++ d) e old four five (omega arith) within fourth j in
     let shape : (((a ++ b) ++ c) ++ d) ++ e ≡ a ++ (b ++ (c ++ (d ++ e))) = simp append_assoc in
     fifth ∙ ap (λ (bytes : List ℕ). splice at bytes old) shape
+
+-- bytes right before others
+pub splice_before : (n m : ℕ) (a b xs one two : List ℕ) → n + length a ≡ m → m ≤ length xs → one ≡ splice m b xs → two ≡ splice n a one → two ≡ splice n (a ++ b) xs
+splice_before n m a b xs one two is within e f =
+    let front : take n (splice m b xs) ≡ take n xs = take_splice_below m n b xs (omega arith) within in
+    let back : drop (n + length a) (splice m b xs) ≡ b ++ drop (m + length b) xs = ap (λ (k : ℕ). drop k (splice m b xs)) is ∙ drop_splice_at m b xs within in
+    let end : m + length b ≡ n + length (a ++ b) = omega (arith, length-append a b) in
+    f ∙ ap (splice n a) e ∙ rw (front, back) (ap (λ (ys : List ℕ). take n xs ++ ys) (sym (append_assoc a b (drop (m + length b) xs)) ∙ ap (λ (k : ℕ). (a ++ b) ++ drop k xs) end))
+
+-- bytes that stand there already
+pub splice_same : (n : ℕ) (b xs : List ℕ) → drop n xs ≡ b ++ drop (n + length b) xs → xs ≡ splice n b xs
+splice_same n b xs e = sym (take-append-drop n xs) ∙ ap (λ (ys : List ℕ). take n xs ++ ys) e

@@ -50,17 +50,17 @@ abbrev length_in : Option (ℕ × ℕ) → ℕ
 length_in None = 0
 length_in (Some x) = x.1
 
-found_is : (a m v n : ℕ) → found a m ≡ found v n → (a ≡ v) × (m ≡ n)
+pub found_is : (a m v n : ℕ) → found a m ≡ found v n → (a ≡ v) × (m ≡ n)
 found_is a m v n e = (ap (λ (o : Option (ℕ × ℕ)). value_in o) e, ap (λ (o : Option (ℕ × ℕ)). length_in o) e)
 
 -- how a byte is read
-reads_ninth : (read high b : ℕ) (bs : List ℕ) → read ≡ 8 → varint_from read high (b ∷ bs) ≡ Some (high * 256 + b, 9)
+pub reads_ninth : (read high b : ℕ) (bs : List ℕ) → read ≡ 8 → varint_from read high (b ∷ bs) ≡ Some (high * 256 + b, 9)
 reads_ninth read high b bs e = grind (arith, nat_tests)
 
-reads_last : (read high b : ℕ) (bs : List ℕ) → read ≢ 8 → b < 128 → varint_from read high (b ∷ bs) ≡ Some (high * 128 + b, read + 1)
+pub reads_last : (read high b : ℕ) (bs : List ℕ) → read ≢ 8 → b < 128 → varint_from read high (b ∷ bs) ≡ Some (high * 128 + b, read + 1)
 reads_last read high b bs e l = grind (arith, nat_tests)
 
-reads_more : (read high b : ℕ) (bs : List ℕ) → read ≢ 8 → 128 ≤ b → varint_from read high (b ∷ bs) ≡ varint_from (read + 1) (high * 128 + (b - 128)) bs
+pub reads_more : (read high b : ℕ) (bs : List ℕ) → read ≢ 8 → 128 ≤ b → varint_from read high (b ∷ bs) ≡ varint_from (read + 1) (high * 128 + (b - 128)) bs
 reads_more read high b bs e l = grind (arith, nat_tests)
 
 reads_more_as : (read high b next v : ℕ) (bs : List ℕ) → read ≢ 8 → 128 ≤ b → next ≡ read + 1 → high * 128 + (b - 128) ≡ v → varint_from read high (b ∷ bs) ≡ varint_from next v bs
@@ -111,7 +111,7 @@ reads_back value len is some few fits cap rest =
           subst (λ (n : ℕ). varint_of (spelled n value ++ rest) ≡ Some (value, len)) is (rw nine (read_nine value rest cap))
     ]
 
-byte_cases : (P : Type 0) (read b : ℕ) → (read ≡ 8 → P) → (read ≢ 8 → b < 128 → P) → (read ≢ 8 → 128 ≤ b → P) → P
+pub byte_cases : (P : Type 0) (read b : ℕ) → (read ≡ 8 → P) → (read ≢ 8 → b < 128 → P) → (read ≢ 8 → 128 ≤ b → P) → P
 byte_cases P read b ninth last more =
     elim (cases_eq read 8) [ inl e ↦ ninth e | inr e ↦ elim (cases_lt b 128) [ inl l ↦ last e l | inr l ↦ more e l ] ]
 

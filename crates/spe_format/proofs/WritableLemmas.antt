@@ -14,7 +14,7 @@ use Rattle.spe_model.specs.Kind.{kind_of, is_leaf, is_table, has_payload}
 use Rattle.spe_model.specs.Page.{placed_at, placed_all, offsets_at, array_end, is_within, apart, ascends, right_at, page_of_cells, page_of_kind, page_at}
 use Rattle.spe_format.specs.Canonical.{IsWritableCell, AreWritable, IsWritable}
 
-abbrev first_of : {X : Type 0} → X → Option (X × List ℕ) → X
+abbrev pub first_of : {X : Type 0} → X → Option (X × List ℕ) → X
 first_of other None = other
 first_of other (Some x) = x.0
 
@@ -22,11 +22,11 @@ bind_some : {A B : Type 0} (o : Option A) (f : A → Option B) (y : B) → (o >>
 bind_some None f y e = absurd cc
 bind_some (Some x) f y e = (x, refl, e)
 
-unless_none : {Y : Type 0} (b : Bool) (o : Option Y) (y : Y) → (if b then None else o) ≡ Some y → (b ≡ false) × (o ≡ Some y)
+pub unless_none : {Y : Type 0} (b : Bool) (o : Option Y) (y : Y) → (if b then None else o) ≡ Some y → (b ≡ false) × (o ≡ Some y)
 unless_none true o y e = absurd cc
 unless_none false o y e = (refl, e)
 
-abbrev part : {X : Type 0} → X → List ℕ → Option (X × List ℕ)
+abbrev pub part : {X : Type 0} → X → List ℕ → Option (X × List ℕ)
 part x rest = Some (x, rest)
 
 left_none : (kind : Kind) (bytes rest : List ℕ) (n : ℕ) → left_at kind bytes ≡ part n rest → is_leaf kind ≡ true → n ≡ 0
@@ -57,7 +57,7 @@ local_long count bytes local rest e =
     let same : take count bytes ≡ local = ap (λ (o : Option (List ℕ × List ℕ)). first_of [] o) enough.1 in
     ap length (sym same) ∙ length-take-le count bytes (ltb-false (length bytes) count enough.0)
 
-chain_none : (size payload : ℕ) (bytes rest : List ℕ) (n : ℕ) → chain_at (size == payload) bytes ≡ part n rest → size ≡ payload → n ≡ 0
+pub chain_none : (size payload : ℕ) (bytes rest : List ℕ) (n : ℕ) → chain_at (size == payload) bytes ≡ part n rest → size ≡ payload → n ≡ 0
 unfolding chain_at
 chain_none size payload bytes rest n e whole =
     sym (ap (λ (o : Option (ℕ × List ℕ)). first_of 0 o) (rw (eq-eqb size payload whole) at e))

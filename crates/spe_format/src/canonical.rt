@@ -69,7 +69,7 @@ fn put_chain(page: &mut [u8], at: usize, cell: &Cell)
     }
 }
 
-fn put_cell(page: &mut [u8], at: usize, kind: Kind, cell: &Cell)
+pub(crate) fn put_cell(page: &mut [u8], at: usize, kind: Kind, cell: &Cell)
     requires { at + length (cell_bytes kind cell.now) ≤ length page.old }
     ensures { page.new ≡ splice at (cell_bytes kind cell.now) page.old }
 {
@@ -139,7 +139,7 @@ pub fn cell_length(kind: Kind, cell: &Cell) -> usize
 }
 
 // What the types of a cell's fields say of it.
-fn see_range(cell: &Cell)
+pub(crate) fn see_range(cell: &Cell)
     ensures { IsInRange cell.now }
 {
     let _left = cell.left;

@@ -80,7 +80,7 @@ fn key_of(kind: Kind, bytes: &[u8]) -> Option<(i64, &[u8])>
 }
 
 #[tactic(auto, unfolding(spe_model::specs::Cell::bytes_at))]
-fn bytes_of(count: u64, bytes: &[u8]) -> Option<(&[u8], &[u8])>
+pub(crate) fn bytes_of(count: u64, bytes: &[u8]) -> Option<(&[u8], &[u8])>
     ensures value { option_map (λ x. (x.0.now, x.1.now)) result ≡ bytes_at count bytes.now }
     ensures shorter { IfSome result (λ x. length x.1.now ≤ length bytes.now) }
 {
@@ -91,7 +91,7 @@ fn bytes_of(count: u64, bytes: &[u8]) -> Option<(&[u8], &[u8])>
 }
 
 #[tactic(auto, unfolding(spe_model::specs::Cell::chain_at))]
-fn chain_of(whole: bool, bytes: &[u8]) -> Option<(u32, &[u8])>
+pub(crate) fn chain_of(whole: bool, bytes: &[u8]) -> Option<(u32, &[u8])>
     ensures value { option_map (λ x. (x.0, x.1.now)) result ≡ chain_at whole bytes.now }
     ensures shorter { IfSome result (λ x. length x.1.now ≤ length bytes.now) }
 {

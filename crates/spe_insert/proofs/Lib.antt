@@ -13,3 +13,4 @@ pub mod RootLemmas
 pub mod RaiseLemmas
 pub mod GapLemmas
 pub mod PutLeafLemmas
+pub mod PackedLeafLemmas

@@ -290,7 +290,7 @@ pub at_zero : (What : ℕ → Type 0) → What 0 → (height : ℕ) → height <
 at_zero What is zero less = is
 at_zero What is (suc n) less = absurd (omega (arith, less))
 
-other_header : (page : ℕ) → page ≢ 1 → header_end page ≡ 0
+pub other_header : (page : ℕ) → page ≢ 1 → header_end page ≡ 0
 other_header page other = elim (cases_Bool (page == 1)) [
   | inl first ↦ absurd (other (eqb-true page 1 first))
   | inr later ↦ rw later refl

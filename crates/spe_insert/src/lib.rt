@@ -14,6 +14,7 @@ mod leaf;
 mod leaf_step;
 mod look;
 mod node;
+mod packed_leaf;
 mod place;
 mod root;
 mod row;

@@ -14,7 +14,7 @@ use Rattle.spe_insert.specs.Place.{place_for}
 use Rattle.spe_insert.specs.Run.{run_of}
 use Rattle.spe_insert.proofs.GapLemmas.{all_fits, all_writable}
 use Rattle.spe_insert.proofs.PutLeafLemmas.{Laws, at_zero, chain_spares, held_so, no_row_there, step_of, step_puts, step_spares}
-use Rattle.spe_insert.proofs.leaf_step.put_in_leaf.Goals as goal
+use Rattle.spe_insert.proofs.leaf_step.put_among.Goals as goal
 
 pub returns-in_default-clause-likely : goal.returns-in_default-clause-likely
 returns-in_default-clause-likely g c = λ pages height low high agrees less at is lacks writable.
