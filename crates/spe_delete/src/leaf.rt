@@ -10,11 +10,11 @@ ghost use Rattle.spe_insert.specs.Below.{IsPage, WhereTree};
 ghost use Rattle.spe_insert.specs.LeafStep.{FailsLeaf, IsLeafOf};
 ghost use Rattle.spe_delete.specs.Leaf.{DropsCell, IsAbsent};
 
-use crate::cell::{free_cell, leads_at, take_cell};
+use crate::cell::{free_cell, place_of_row, take_cell};
 use spe_cut::{gone_law, legal_fits, row_law};
 use spe_format::{legal_is_writable, read_page};
 use spe_frame::shifts_law;
-use spe_insert::{lay_lower, place_of};
+use spe_insert::lay_lower;
 use spe_model::{Cells, Kind, PageCells, PageFault};
 use spe_space::{PageSpace, SpaceFault, TreeFault};
 use std::alloc::Global;
@@ -80,10 +80,9 @@ pub fn drop_cell<S: PageSpace>(
         Ok(cells) => cells,
         Err(fault) => return Err(fault),
     };
-    let place = place_of(cells.as_slice(), rowid);
-    if !leads_at(cells.as_slice(), place, rowid) {
+    let Some(place) = place_of_row(cells.as_slice(), rowid) else {
         return Ok(None);
-    }
+    };
     let (cells, cell) = take_cell(cells, place);
     let leaf = PageCells {
         kind: Kind::TableLeaf,
