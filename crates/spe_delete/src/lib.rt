@@ -1,11 +1,14 @@
 //! The lower steps of taking a row out of a table's tree.
 //!
-//! A leaf that has the row is put without its cell, and then the pages of its chain are made free. Each
-//! step says of pages in use elsewhere that they stay, whatever it answers.
+//! A leaf that has the row is put without its cell, and then the pages of its chain are made free. Two
+//! neighbours whose cells fit one page become that page. Each step says of pages in use elsewhere that
+//! they stay, whatever it answers.
 #![tactic(auto)]
 
 mod cell;
 mod leaf;
+mod merge;
 
 pub use cell::free_cell;
 pub use leaf::drop_cell;
+pub use merge::merge_pages;
