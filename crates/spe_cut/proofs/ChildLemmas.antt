@@ -27,11 +27,11 @@ middle_first whole before part after is n =
     count all a b c bc ac bac e f g h = omega (arith, e, f, g, h)
 
 -- the trees behind a place
-abbrev AreBehind : (T : (low high page : ℕ) → Type 0) (high : ℕ) → Place → Type 0
+abbrev pub AreBehind : (T : (low high page : ℕ) → Type 0) (high : ℕ) → Place → Type 0
 AreBehind T high (inner before c after right) = (rank c.key < high) × AreUnder T (rank c.key + 1) high after right
 AreBehind T high (last before) = Unit {0}
 
-abbrev AreFilledBehind : (T : ℕ → Type 0) → Place → Type 0
+abbrev pub AreFilledBehind : (T : ℕ → Type 0) → Place → Type 0
 AreFilledBehind T (inner before c after right) = AreBelow T after right
 AreFilledBehind T (last before) = Unit {0}
 
@@ -51,7 +51,7 @@ place_parts T low high (last before) child under =
     let parts = under_end T low high before child under in
     record { lower = parts.lower; tree = parts.end; higher = tt; below = omega arith }
 
-place_joined : (T : (low high page : ℕ) → Type 0) → Orders T → (low high : ℕ) (place : Place) (run : Run)
+pub place_joined : (T : (low high page : ℕ) → Type 0) → Orders T → (low high : ℕ) (place : Place) (run : Run)
     → AreFront T low (cells_before place) → AreUnder T (low_at low place) (high_at high place) run.cells run.right → IsOpen (low_at low place) (high_at high place) run
     → AreBehind T high place → AreUnder T low high (with_run place run).cells (with_run place run).right
 place_joined T orders low high (inner before c after right) run lower is fits higher =
@@ -68,29 +68,29 @@ filled_parts T (inner before c after right) child below =
     let parts = below_parts T before (record c { left = child } ∷ after) right below in (parts.0, parts.1.0, parts.1.1)
 filled_parts T (last before) child below = let parts = below_end T before child below in (parts.0, parts.1, tt)
 
-filled_joined : (T : ℕ → Type 0) (place : Place) (run : Run) → AreLeft T (cells_before place) → AreBelow T run.cells run.right → AreFilledBehind T place
+pub filled_joined : (T : ℕ → Type 0) (place : Place) (run : Run) → AreLeft T (cells_before place) → AreBelow T run.cells run.right → AreFilledBehind T place
     → AreBelow T (with_run place run).cells (with_run place run).right
 filled_joined T (inner before c after right) run lower below higher =
     below_joined T before (run.cells ++ (record c { left = run.right } ∷ after)) right lower (below_followed T run.cells (record c { left = run.right }) after right below higher)
 filled_joined T (last before) run lower below higher = below_joined T before run.cells run.right lower below
 
 -- those behind a place keep what they have
-behind_kept : (K : ℕ → Type 0) (all : ℕ → List ℕ) (T T' : (low high page : ℕ) → Type 0) → ((low high page : ℕ) → Each K (all page) → T low high page → T' low high page)
+pub behind_kept : (K : ℕ → Type 0) (all : ℕ → List ℕ) (T T' : (low high page : ℕ) → Type 0) → ((low high page : ℕ) → Each K (all page) → T low high page → T' low high page)
     → (high : ℕ) (place : Place) → Each K (back all place) → AreBehind T high place → AreBehind T' high place
 behind_kept K all T T' each high (inner before c after right) kept are = (are.0, under_kept K all T T' each (rank c.key + 1) high after right kept are.1)
 behind_kept K all T T' each high (last before) kept are = tt
 
-filled_behind_kept : (K : ℕ → Type 0) (all : ℕ → List ℕ) (T T' : ℕ → Type 0) → ((page : ℕ) → Each K (all page) → T page → T' page)
+pub filled_behind_kept : (K : ℕ → Type 0) (all : ℕ → List ℕ) (T T' : ℕ → Type 0) → ((page : ℕ) → Each K (all page) → T page → T' page)
     → (place : Place) → Each K (back all place) → AreFilledBehind T place → AreFilledBehind T' place
 filled_behind_kept K all T T' each (inner before c after right) kept are = below_kept K all T T' each after right kept are
 filled_behind_kept K all T T' each (last before) kept are = tt
 
-back_kept : {X : Type 0} (K : ℕ → Type 0) (all : ℕ → List ℕ) (own own' : ℕ → List X) → ((page : ℕ) → Each K (all page) → own' page ≡ own page)
+pub back_kept : {X : Type 0} (K : ℕ → Type 0) (all : ℕ → List ℕ) (own own' : ℕ → List X) → ((page : ℕ) → Each K (all page) → own' page ≡ own page)
     → (place : Place) → Each K (back all place) → back own' place ≡ back own place
 back_kept K all own own' each (inner before c after right) kept = fan_kept K all own own' each after right kept
 back_kept K all own own' each (last before) kept = refl
 
-behind_higher : (T : (low high page : ℕ) → Type 0) (rows : ℕ → List (ℤ × List ℕ)) → HasWithin T rows → (high : ℕ) (place : Place)
+pub behind_higher : (T : (low high page : ℕ) → Type 0) (rows : ℕ → List (ℤ × List ℕ)) → HasWithin T rows → (high : ℕ) (place : Place)
     → AreBehind T high place → AreHigher (high_at high place) (back rows place)
 behind_higher T rows has high (inner before c after right) are =
     higher_of (rank c.key + 1) high (fan rows after right) (fan_within T rows has (rank c.key + 1) high after right are.1)

@@ -15,3 +15,6 @@ pub mod LoopLemmas
 pub mod SpanLemmas
 pub mod ShortLemmas
 pub mod LegalLemmas
+pub mod GoneLemmas
+pub mod StretchLemmas
+pub mod JoinLemmas

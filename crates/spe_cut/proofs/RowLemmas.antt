@@ -20,7 +20,7 @@ IsLower high r = rank r.0 < high
 abbrev IsHigher : (low : ℕ) → ℤ × List ℕ → Type 0
 IsHigher low r = low ≤ rank r.0
 
-other_rowid : (a b : ℤ) → (rank a < rank b) ⊎ (rank b < rank a) → int_eq a b ≡ false
+pub other_rowid : (a b : ℤ) → (rank a < rank b) ⊎ (rank b < rank a) → int_eq a b ≡ false
 other_rowid a b order = elim (cases_Bool (int_eq a b)) [
   | inl same ↦ absurd (let e = ap rank ((Decides-int_eq a b).0 same) in omega (arith, e, order))
   | inr other ↦ other

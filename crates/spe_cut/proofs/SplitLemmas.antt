@@ -31,7 +31,7 @@ some_above T low high [] right some under = absurd (omega (arith, some))
 some_above T low high (c ∷ cs) right some under = omega (arith, under.0, under.1)
 
 -- two roots, each before the pages below it
-two_roots : (first second : ℕ) (xs ys : List ℕ) → AreSame ((first ∷ xs) ++ (second ∷ ys)) (first ∷ second ∷ (xs ++ ys))
+pub two_roots : (first second : ℕ) (xs ys : List ℕ) → AreSame ((first ∷ xs) ++ (second ∷ ys)) (first ∷ second ∷ (xs ++ ys))
 two_roots first second xs ys n =
     count (times n (xs ++ (second ∷ ys))) (times n xs) (times n ys) (times n (xs ++ ys)) (one_if (n == first)) (one_if (n == second))
     (times-append n xs (second ∷ ys)) (times-append n xs ys)

@@ -6,3 +6,6 @@ pub mod Leaf
 pub mod Depth
 pub mod Parts
 pub mod Place
+pub mod Gone
+pub mod Stretch
+pub mod Joined

@@ -1,0 +1,4 @@
+pub mod CutLemmas
+pub mod DropLemmas
+pub mod MergeLemmas
+pub mod RootLemmas

@@ -1,0 +1,4 @@
+pub mod Leaf
+pub mod Merge
+pub mod Root
+pub mod Delete

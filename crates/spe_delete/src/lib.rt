@@ -1,0 +1,16 @@
+//! The lower steps of taking a row out of a table's tree.
+//!
+//! A leaf that has the row is put without its cell, and then the pages of its chain are made free. Two
+//! neighbours whose cells fit one page become that page. A root whose only child is left takes what that
+//! has. Each step says of pages in use elsewhere that they stay, whatever it answers.
+#![tactic(auto)]
+
+mod cell;
+mod leaf;
+mod merge;
+mod root;
+
+pub use cell::free_cell;
+pub use leaf::drop_cell;
+pub use merge::merge_pages;
+pub use root::lower_root;
