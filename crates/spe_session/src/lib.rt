@@ -1,0 +1,14 @@
+//! Transactions of one client over a store.
+//!
+//! A pager shows the pages of a transaction to all that works on pages: it reads each page once, and keeps
+//! what is put until the transaction ends.
+#![tactic(auto)]
+
+mod fetch;
+mod page_set;
+mod pager;
+mod paging;
+mod put;
+mod show;
+
+pub use pager::{Pager, Parts};
