@@ -8,8 +8,9 @@ use Rattle.spe_space.specs.declared.fault.SpaceFault.{SpaceFault}
 use Rattle.spe_space.specs.declared.fault.SpaceFault.TheVariants as space
 use Rattle.spe_store.specs.declared.stop.StoreFault.{StoreFault}
 use Rattle.spe_store.specs.declared.stop.StoreFault.TheVariants as store
-use Rattle.spe_store.specs.Event.{Event, written_in}
+use Rattle.spe_store.specs.Event.{Event, entries_in, written_in}
 use Rattle.spe_store.specs.Opened.{Opened}
+use Rattle.spe_store.specs.Served.{Entry}
 use Rattle.spe_store.specs.Store.{Store, pages_in}
 
 -- no transaction has written a page
@@ -37,8 +38,18 @@ admits_own (space.Busy page word) = false
 admits_own (space.Stopped op) = false
 admits_own _ = true
 
+-- what a transaction began on: the files and the commits, how many pages there were, its id, and the first trunk of its list
+pub record Begun : Type 0 where
+  pub told : Option History
+  pub entries : List Entry
+  pub count : ℕ
+  pub id : ℕ
+  pub first : ℕ
+
 -- nothing was done to the store but a reading
 pub record StaysBelow (opened : Opened) (old new : Store) : Type 0 where
+  pub files : new.desk.told ≡ old.desk.told
+  pub commits : entries_in new.events ≡ entries_in old.events
   pub told : below_of opened new ≡ below_of opened old
   pub sized : new.page_size ≡ old.page_size
   pub counted : new.count ≡ old.count

@@ -42,6 +42,7 @@ pub(crate) fn read_once<D: Disk, N: Opening>(
     ensures read { OnOk result (ReadsOne page buf.new (seen_in pass.old.done pass.old.id) (seen_in pass.new.done pass.new.id)) }
     ensures gives { OnOk result (IfSome (below_of N.opened store.old) (λ pages. pages page ≡ buf.new)) }
     ensures err { OnErr result (pass.new ≡ pass.old) }
+    ensures id { pass.new.id ≡ pass.old.id }
     ensures fault { IfErr result (λ fault. fault ≡ Read) }
     ensures cause { OnErr result (Rose store.old.desk.reads store.new.desk.reads) }
     ensures below { StaysBelow N.opened store.old store.new }

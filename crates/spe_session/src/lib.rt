@@ -4,6 +4,7 @@
 //! what is put until the transaction ends.
 #![tactic(auto)]
 
+mod beginning;
 mod fetch;
 mod page_set;
 mod pager;
@@ -11,4 +12,5 @@ mod paging;
 mod put;
 mod show;
 
+pub use beginning::Beginning;
 pub use pager::{Pager, Parts};

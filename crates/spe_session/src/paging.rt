@@ -8,13 +8,14 @@ ghost use Rattle.spe_session.specs.Lists.{AreInOrder, is_listed};
 ghost use Rattle.spe_session.specs.Pages.{laid_in};
 ghost use Rattle.spe_session.specs.Facts.{given_of, pages_inside, some_agrees};
 
+use crate::beginning::Beginning;
 use crate::pager::Pager;
 use crate::put::recounted;
 use spe_disk::Disk;
 use spe_space::{Pages, SpaceFault};
 use spe_store::Opening;
 
-impl<D: Disk, N: Opening> Pages for Pager<D, N> {
+impl<D: Disk, N: Opening, K: Beginning> Pages for Pager<D, N, K> {
     ghost size = { λ s. s.size };
 
     ghost used = { λ s. s.usable };
@@ -35,7 +36,7 @@ impl<D: Disk, N: Opening> Pages for Pager<D, N> {
 
     ghost is_free = { λ s pages. is_listed (lay (laid_in s.store.count s.pages s.size s.dirty) pages) };
 
-    ghost stands = { λ s pages. AreInOrder s.usable s.pages s.first (lay (laid_in s.store.count s.pages s.size s.dirty) pages) };
+    ghost stands = { λ s pages. AreInOrder s.usable s.pages K.begun.first (lay (laid_in s.store.count s.pages s.size s.dirty) pages) };
 
     ghost admits = { admits_own };
 

@@ -9,6 +9,7 @@ ghost use Rattle.spe_store.specs.Event.{seen_in};
 ghost use Rattle.spe_session.specs.Below.{below_of};
 ghost use Rattle.spe_session.specs.Pages.{IsLent, Sets, bytes_at, first_of, laid_in};
 
+use crate::beginning::Beginning;
 use crate::pager::Pager;
 use spe_disk::Disk;
 use spe_model::{Bytes, Header};
@@ -49,7 +50,7 @@ pub(crate) fn recounted(front: Vec<u8>, pages: u32) -> Bytes
     Bytes::new(front)
 }
 
-impl<D: Disk, N: Opening> Pager<D, N> {
+impl<D: Disk, N: Opening, K: Beginning> Pager<D, N, K> {
     // Page 1, where it was put or read.
     fn first_page(&self) -> Option<&[u8]>
         ensures { IsLent (first_of self.now.dirty self.now.clean) result }
@@ -96,7 +97,6 @@ impl<D: Disk, N: Opening> Pager<D, N> {
         ensures usable { self.new.usable ≡ self.old.usable }
         ensures pages { self.new.pages ≡ self.old.pages }
         ensures limit { self.new.limit ≡ self.old.limit }
-        ensures first { self.new.first ≡ self.old.first }
         ensures refusal { self.new.refusal ≡ self.old.refusal }
     {
         let mut copy = Vec::new(self.alloc);
@@ -125,7 +125,6 @@ impl<D: Disk, N: Opening> Pager<D, N> {
         ensures size { self.new.size ≡ self.old.size }
         ensures usable { self.new.usable ≡ self.old.usable }
         ensures limit { self.new.limit ≡ self.old.limit }
-        ensures first { self.new.first ≡ self.old.first }
         ensures refusal { self.new.refusal ≡ self.old.refusal }
     {
         self.dirty.put(1, front)?;

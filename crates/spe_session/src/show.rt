@@ -8,6 +8,7 @@ ghost use Rattle.spe_store.specs.Event.{seen_in};
 ghost use Rattle.spe_session.specs.Below.{below_of};
 ghost use Rattle.spe_session.specs.Pages.{IsShown, ReadsOne, bytes_at, laid_in};
 
+use crate::beginning::Beginning;
 use crate::fetch::read_once;
 use crate::page_set::PageSet;
 use crate::pager::Pager;
@@ -33,7 +34,7 @@ fn filled(room: Vec<u8>, bytes: &[u8]) -> Bytes
     Bytes::new(room)
 }
 
-impl<D: Disk, N: Opening> Pager<D, N> {
+impl<D: Disk, N: Opening, K: Beginning> Pager<D, N, K> {
     // Copies a page that is kept, or was added, and says whether it is such a page.
     fn copy_kept(&self, page: u32, buf: &mut [u8]) -> bool
         requires size { length buf.old ≡ self.now.size }
@@ -76,7 +77,6 @@ impl<D: Disk, N: Opening> Pager<D, N> {
         ensures usable { self.new.usable ≡ self.old.usable }
         ensures pages { self.new.pages ≡ self.old.pages }
         ensures limit { self.new.limit ≡ self.old.limit }
-        ensures first { self.new.first ≡ self.old.first }
     {
         let room = vec![in self.alloc; 0u8; self.size as usize]?;
         self.clean.put(page, Bytes::new(Vec::new(self.alloc)))?;
@@ -110,7 +110,6 @@ impl<D: Disk, N: Opening> Pager<D, N> {
         ensures usable { self.new.usable ≡ self.old.usable }
         ensures pages { self.new.pages ≡ self.old.pages }
         ensures limit { self.new.limit ≡ self.old.limit }
-        ensures first { self.new.first ≡ self.old.first }
     {
         if self.copy_kept(page, buf) {
             return Ok(());

@@ -19,7 +19,7 @@ pub returns-clause-free : goal.returns-clause-free
 returns-clause-free g c = λ pages agrees stood apart n.
     let s = c.args.self.now in
     let e = c.in_ok-lay.ensures in
-    let both = put_stands s.usable s.first s.store.count s.pages s.size s.dirty c.lay.new.self.dirty pages stood c.args.page c.args.bytes.now e.ok (c.requires) s.range.1 (c.may_be_put.ensures.legal c.if-not-may_be_put.false) apart in
+    let both = put_stands s.usable g.K.Beginning.begun.first s.store.count s.pages s.size s.dirty c.lay.new.self.dirty pages stood c.args.page c.args.bytes.now e.ok (c.requires) s.range.1 (c.may_be_put.ensures.legal c.if-not-may_be_put.false) apart in
     ap (λ (count : ℕ). is_listed (lay (laid_in count c.lay.new.self.pages c.lay.new.self.size c.lay.new.self.dirty) pages) n) (ap (λ (t : Store). t.count) e.store)
     ∙ ap (λ (count : ℕ). is_listed (lay (laid_in s.store.count count c.lay.new.self.size c.lay.new.self.dirty) pages) n) e.pages
     ∙ ap (λ (size : ℕ). is_listed (lay (laid_in s.store.count s.pages size c.lay.new.self.dirty) pages) n) e.size
@@ -29,5 +29,5 @@ pub returns-clause-stands : goal.returns-clause-stands
 returns-clause-stands g c = λ pages agrees stood apart.
     let s = c.args.self.now in
     let e = c.in_ok-lay.ensures in
-    let both = put_stands s.usable s.first s.store.count s.pages s.size s.dirty c.lay.new.self.dirty pages stood c.args.page c.args.bytes.now e.ok (c.requires) s.range.1 (c.may_be_put.ensures.legal c.if-not-may_be_put.false) apart in
-    rw (e.store, e.pages, e.size, e.usable, e.first) both.0
+    let both = put_stands s.usable g.K.Beginning.begun.first s.store.count s.pages s.size s.dirty c.lay.new.self.dirty pages stood c.args.page c.args.bytes.now e.ok (c.requires) s.range.1 (c.may_be_put.ensures.legal c.if-not-may_be_put.false) apart in
+    rw (e.store, e.pages, e.size, e.usable) both.0
