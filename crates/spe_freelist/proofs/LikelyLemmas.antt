@@ -144,6 +144,16 @@ legal_whole xs long legal = go (find (has_fault xs) faults) (find (has_fault (ta
     go (Some e) None h k same legal = absurd cc
     go (Some e) (Some d) h k same legal = absurd cc
 
+-- a header in all bytes is one in the first hundred
+pub legal_front : (xs : List ℕ) → 100 ≤ length xs → IsOk (header_of xs) → IsOk (header_of (take 100 xs))
+legal_front xs long legal = go (find (has_fault xs) faults) (find (has_fault (take 100 xs)) faults) (fields xs) (fields (take 100 xs))
+    (find_alike (has_fault xs) (has_fault (take 100 xs)) (fault_front xs long) faults) legal
+  where
+    go : (f g : Option HeaderFault) (h k : Header) → f ≡ g → IsOk (unless f h) → IsOk (unless g k)
+    go None None h k same legal = refl
+    go None (Some d) h k same legal = absurd cc
+    go (Some e) g h k same legal = absurd cc
+
 -- page 1 is legal again when it names more pages
 pub grows_legal : (count : ℕ) (front : List ℕ) → IsOk (header_of (take 100 front)) → IsErr (header_of (recounted count front)) → ⊥
 grows_legal count front legal fails =

@@ -31,12 +31,12 @@ abbrev SameList : (old new : Paging) → FreeChain → Type 0
 SameList old new f = list_of new f ≡ list_of old f
 
 -- lists that stay
-record Stay (usable : ℕ) (old new : Paging) (fs : List FreeChain) : Type 0 where
-  pages : flat_map (chain_of_free new) fs ≡ flat_map (chain_of_free old) fs
-  whole : All (IsFreeChain usable new) fs
-  same : All (SameList old new) fs
+pub record Stay (usable : ℕ) (old new : Paging) (fs : List FreeChain) : Type 0 where
+  pub pages : flat_map (chain_of_free new) fs ≡ flat_map (chain_of_free old) fs
+  pub whole : All (IsFreeChain usable new) fs
+  pub same : All (SameList old new) fs
 
-lists_stay : (usable : ℕ) (old new : Paging) (fs : List FreeChain) → All (IsFreeChain usable old) fs
+pub lists_stay : (usable : ℕ) (old new : Paging) (fs : List FreeChain) → All (IsFreeChain usable old) fs
     → ((n : ℕ) → 0 < times n (flat_map (chain_of_free old) fs) → new n ≡ old n) → Stay usable old new fs
 lists_stay usable old new [] whole stays = record { pages = refl; whole = All-nil (IsFreeChain usable new); same = All-nil (SameList old new) }
 lists_stay usable old new (f ∷ fs) whole stays =

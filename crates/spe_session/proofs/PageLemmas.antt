@@ -1,0 +1,77 @@
+-- What a pager shows of its pages.
+use Rattle.std.proofs.Common.{◌≡◌, ◌≢◌, ◌⊎◌, ◌<◌, ◌≤◌, ◌∙◌, ℕ, List, [], ◌∷◌, length, All, Option, Some, None, Result, Ok, Err, OnOk, refl, sym, ap, subst, arith, ⊎_elim, inl, inr, unwrap_or, option_to_list}
+use Rattle.std.specs.Prelude.{IfSome, false, ◌&&◌, nat_lt, nat_le, Bool, if◌then◌else◌, replicate}
+use Rattle.std.proofs.lemmas.Bool.{cases_eq, le-leb, le-ltb}
+use Rattle.std.proofs.lemmas.List.Elements.{All-cons, All-head, All-nil}
+use Rattle.spe_model.specs.Paging.{Agrees, Given, PageMap, Paging, lay}
+use Rattle.spe_session.specs.Below.{IsBelow}
+use Rattle.spe_session.specs.Pages.{AreSized, IsShown, KeepsSeen, ReadsOne, Sets, bytes_at, first_of, laid_in, laid_of, or_else}
+
+pub laid_none : (base pages size : ℕ) (dirty : List (ℕ × List ℕ)) (n : ℕ) → bytes_at dirty n ≡ None → n ≤ base → laid_in base pages size dirty n ≡ None
+laid_none base pages size dirty n none low = rw (none, le-ltb base n low) refl
+
+-- a page that was neither put nor added is shown as it is below
+pub below_shown : (seen : Given) (laid : PageMap) (page : ℕ) (bytes : List ℕ) → laid page ≡ None → seen page ≡ bytes ∷ [] → IsShown seen laid page bytes
+below_shown seen laid page bytes none once = λ pages agrees.
+    let given : All (λ (b : List ℕ). pages page ≡ b) (bytes ∷ []) = subst (λ (bs : List (List ℕ)). All (λ (b : List ℕ). pages page ≡ b) bs) once (agrees.each page) in
+    sym (All-head (λ (b : List ℕ). pages page ≡ b) bytes [] given) ∙ sym (ap (λ (o : Option (List ℕ)). unwrap_or o (pages page)) none)
+
+pub clean_shown : (base pages size : ℕ) (dirty clean : List (ℕ × List ℕ)) (seen : Given) (page : ℕ) (bytes : List ℕ) → KeepsSeen clean seen
+    → bytes_at dirty page ≡ None → page ≤ base → bytes_at clean page ≡ Some bytes → IsShown seen (laid_in base pages size dirty) page bytes
+clean_shown base pages size dirty clean seen page bytes keeps none low kept =
+    below_shown seen (laid_in base pages size dirty) page bytes (laid_none base pages size dirty page none low) (keeps page ∙ ap option_to_list kept)
+
+-- page 1 as it was put, or else as it was read
+pub first_shown : (base pages size : ℕ) (dirty clean : List (ℕ × List ℕ)) (seen : Given) (bytes : List ℕ) → KeepsSeen clean seen → 1 ≤ base
+    → first_of dirty clean ≡ Some bytes → IsShown seen (laid_in base pages size dirty) 1 bytes
+first_shown base pages size dirty clean seen bytes keeps some is = by_put (bytes_at dirty 1) refl
+  where
+    by_put : (o : Option (List ℕ)) → bytes_at dirty 1 ≡ o → IsShown seen (laid_in base pages size dirty) 1 bytes
+    by_put (Some put) there = λ q agrees.
+        let same : Some put ≡ Some bytes = sym (ap (λ (o : Option (List ℕ)). or_else o (bytes_at clean 1)) there) ∙ is in
+        let put_is : put ≡ bytes = cc in
+        let laid : laid_in base pages size dirty 1 ≡ Some put = rw there refl in
+        sym put_is ∙ sym (ap (λ (o : Option (List ℕ)). unwrap_or o (q 1)) laid)
+    by_put None none = clean_shown base pages size dirty clean seen 1 bytes keeps none some (sym (ap (λ (o : Option (List ℕ)). or_else o (bytes_at clean 1)) none) ∙ is)
+
+-- a page was read and kept, in the room that was taken for it
+pub seen_kept : (page : ℕ) (room copied bytes : List ℕ) (a b c : List (ℕ × List ℕ)) (old new : Given) → KeepsSeen a old → Sets page (Some room) a b → Sets page (Some copied) b c
+    → copied ≡ bytes → ReadsOne page bytes old new → KeepsSeen c new
+seen_kept page room copied bytes a b c old new keeps first second same read n = ⊎_elim
+    (λ (e : n ≡ page). ap new e ∙ read.here ∙ ap (λ (x : List ℕ). x ∷ []) (sym same) ∙ sym (ap option_to_list (ap (bytes_at c) e ∙ second.here)))
+    (λ (other : n ≢ page). read.other n other ∙ keeps n ∙ sym (ap option_to_list (second.other n other ∙ first.other n other)))
+    (cases_eq n page)
+
+pub sized_kept : (size page : ℕ) (room copied : List ℕ) (a b c : List (ℕ × List ℕ)) → AreSized size a → Sets page (Some room) a b → Sets page (Some copied) b c → length copied ≡ size → AreSized size c
+sized_kept size page room copied a b c sized first second long n bytes there = ⊎_elim
+    (λ (e : n ≡ page). let same : Some copied ≡ Some bytes = sym second.here ∙ sym (ap (bytes_at c) e) ∙ there in let is : copied ≡ bytes = cc in ap length (sym is) ∙ long)
+    (λ (other : n ≢ page). sized n bytes (sym (second.other n other ∙ first.other n other) ∙ there))
+    (cases_eq n page)
+
+pub below_kept : (told told' : Option Paging) (page : ℕ) (bytes : List ℕ) (old new : Given) → IsBelow told old → IfSome told (λ (pages : Paging). pages page ≡ bytes) → ReadsOne page bytes old new → told' ≡ told → IsBelow told' new
+below_kept told told' page bytes old new below gives read same pages is =
+    let was : told ≡ Some pages = sym same ∙ is in
+    let at : pages page ≡ bytes = subst (λ (o : Option Paging). IfSome o (λ (q : Paging). q page ≡ bytes)) was gives in
+    record {
+      each = λ n. ⊎_elim
+          (λ (e : n ≡ page). subst (λ (xs : List (List ℕ)). All (λ (b : List ℕ). pages n ≡ b) xs) (sym (ap new e ∙ read.here))
+          (All-cons (λ (b : List ℕ). pages n ≡ b) bytes [] (ap pages e ∙ at) (All-nil (λ (b : List ℕ). pages n ≡ b))))
+          (λ (other : n ≢ page). subst (λ (xs : List (List ℕ)). All (λ (b : List ℕ). pages n ≡ b) xs) (sym (read.other n other)) ((below pages was).each n))
+          (cases_eq n page);
+    }
+
+pub shown_of : {X E : Type 0} (result : Result X E) (page : ℕ) (bytes : List ℕ) (old new : Given) (laid : PageMap) → laid page ≡ None → OnOk result (ReadsOne page bytes old new) → OnOk result (IsShown new laid page bytes)
+shown_of (Ok x) page bytes old new laid none read = below_shown new laid page bytes none read.here
+shown_of (Err e) page bytes old new laid none read = tt
+
+-- what is laid after one page was put
+pub laid_put : (base pages size page : ℕ) (bytes : List ℕ) (old new : List (ℕ × List ℕ)) → Sets page (Some bytes) old new → laid_in base pages size new page ≡ Some bytes
+laid_put base pages size page bytes old new sets = ap (λ (o : Option (List ℕ)). laid_of o (nat_lt base page && nat_le page pages) size) sets.here
+
+pub laid_other : (base pages size page : ℕ) (bytes : List ℕ) (old new : List (ℕ × List ℕ)) → Sets page (Some bytes) old new → (n : ℕ) → n ≢ page → laid_in base pages size new n ≡ laid_in base pages size old n
+laid_other base pages size page bytes old new sets n other = ap (λ (o : Option (List ℕ)). laid_of o (nat_lt base n && nat_le n pages) size) (sets.other n other)
+
+-- pages that there were before others were added
+pub laid_before : (base pages more size : ℕ) (dirty : List (ℕ × List ℕ)) (n : ℕ) → n ≤ pages → pages ≤ more → laid_in base more size dirty n ≡ laid_in base pages size dirty n
+laid_before base pages more size dirty n low high =
+    ap (λ (b : Bool). laid_of (bytes_at dirty n) (nat_lt base n && b) size) (le-leb n more (omega (arith, low, high)) ∙ sym (le-leb n pages low))

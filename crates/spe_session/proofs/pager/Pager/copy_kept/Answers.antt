@@ -1,0 +1,11 @@
+use Rattle.std.proofs.Common.{rules, ◌∙◌, subst, sym, arith, List, ℕ, Some}
+use Rattle.spe_session.specs.Pages.{IsShown, laid_in}
+use Rattle.spe_store.specs.Event.{seen_in}
+use Rattle.spe_session.proofs.PageLemmas.{clean_shown}
+use Rattle.spe_session.proofs.pager.Pager.copy_kept.Goals as goal
+
+pub returns-in-Some-get-clause-shown : goal.returns-in-Some-get-clause-shown
+returns-in-Some-get-clause-shown g c = λ is.
+    let s = c.args.self.now in
+    subst (IsShown (seen_in s.pass.done s.pass.id) (laid_in s.store.count s.pages s.size s.dirty) c.args.page) (sym c.copy_from_slice-in-Some-get.ensures.after)
+    (clean_shown s.store.count s.pages s.size s.dirty s.clean (seen_in s.pass.done s.pass.id) c.args.page c.in-Some-get.bytes.now s.seen (search rules) (search rules) c.in-Some-get.ensures)

@@ -1,0 +1,4 @@
+pub mod Pages
+pub mod Below
+pub mod Lists
+pub mod Facts

@@ -1,0 +1,16 @@
+//! Transactions of one client over a store.
+//!
+//! A pager shows the pages of a transaction to all that works on pages: it reads each page once, and keeps
+//! what is put until the transaction ends.
+#![tactic(auto)]
+
+mod beginning;
+mod fetch;
+mod page_set;
+mod pager;
+mod paging;
+mod put;
+mod show;
+
+pub use beginning::Beginning;
+pub use pager::{Pager, Parts};
