@@ -15,7 +15,7 @@ use std::test::Fail;
 use std::thread::Threads;
 
 // Words, and what is printed of them, though the first reading call would fail: the disk is not asked.
-static WORDS: [(&[&str], u8, &str); 18] = [
+static WORDS: [(&[&str], u8, &str); 17] = [
     (&[], 1, "refused words\n"),
     (&["rows"], 1, "refused words\n"),
     (&["rows", "people.db"], 1, "refused words\n"),
