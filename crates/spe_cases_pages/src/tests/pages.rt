@@ -4,7 +4,12 @@ use std::process::Abort;
 use std::test::Fail;
 
 /// A page of so many bytes, zero but for these at its front and these at its end.
-fn page_of(alloc: Global, length: usize, front: &[u8], end: &[u8]) -> Result<Vec<u8>, AllocError> {
+pub(crate) fn page_of(
+    alloc: Global,
+    length: usize,
+    front: &[u8],
+    end: &[u8],
+) -> Result<Vec<u8>, AllocError> {
     let mut page = vec![in alloc; 0u8; length]?;
     for (i, byte) in front.iter().enumerate() {
         if let Some(place) = page.get_mut(i) {
