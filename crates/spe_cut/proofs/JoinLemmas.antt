@@ -1,5 +1,5 @@
 -- Pages that become one.
-use Rattle.std.proofs.Common.{◌≡◌, ℕ, zero, suc, ℤ, ◌+◌, ◌<◌, ◌≤◌, ◌∙◌, List, [], ◌∷◌, ◌++◌, length, Ok, refl, sym, ap, arith}
+use Rattle.std.proofs.Common.{◌≡◌, ℕ, zero, suc, ℤ, ◌+◌, ◌≤◌, ◌∙◌, List, [], ◌∷◌, ◌++◌, length, refl, sym, ap, arith}
 use Rattle.std.specs.List.{flat_map}
 use Rattle.std.proofs.lemmas.Grind.{flat_map-append}
 use Rattle.std.proofs.lemmas.List.{map-append}
@@ -10,12 +10,12 @@ use Rattle.spe_model.specs.Served.{HasCells}
 use Rattle.spe_model.specs.Standing.{all_pages, chain_pages}
 use Rattle.spe_model.specs.Tree.{AreRows, AreUnder, IsTree, fan, header_end, node_cells, node_right, payload_of, rank, rows_of, tree_pages, tree_rows}
 use Rattle.spe_format.proofs.WritableLemmas.{taken_writable}
-use Rattle.spe_frame.specs.Times.{AreSame, HoldsOf, one_if, times}
+use Rattle.spe_frame.specs.Times.{AreSame, one_if, times}
 use Rattle.spe_frame.proofs.TimesLemmas.{Each, each_from_holds, each_left, each_right, times-append}
 use Rattle.std.specs.Prelude.{◌==◌}
-use Rattle.spe_cut.specs.Joined.{AreGathered, PairIsWhole, RunIsGathered, cells_below, cells_under, nodes_in}
+use Rattle.spe_cut.specs.Joined.{PairIsWhole, RunIsGathered, cells_under, nodes_in}
 use Rattle.spe_cut.specs.Run.{pages_in, rows_in}
-use Rattle.spe_cut.specs.Split.{high_half, low_half, whole}
+use Rattle.spe_cut.specs.Split.{high_half, low_half}
 use Rattle.spe_cut.proofs.FanLemmas.{below_followed, fan_parted, under_followed}
 use Rattle.spe_cut.proofs.GoneLemmas.{rows_wider}
 use Rattle.spe_cut.proofs.HolderLemmas.{no_chains, run_of_holder}

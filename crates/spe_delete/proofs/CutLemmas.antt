@@ -1,6 +1,6 @@
 -- The cells of a leaf without one of them.
-use Rattle.std.proofs.Common.{◌≡◌, ℕ, zero, suc, ℤ, pos, negsuc, ◌+◌, ◌-◌, ◌*◌, ◌<◌, ◌≤◌, ◌∙◌, List, [], ◌∷◌, ◌++◌, All, Bool, true, false, None, take, drop, length, refl, sym, ap, subst, arith, inl, inr}
-use Rattle.std.specs.Prelude.{◌&&◌, int_lt, nat_le}
+use Rattle.std.proofs.Common.{◌≡◌, ℕ, ℤ, pos, negsuc, ◌+◌, ◌*◌, ◌<◌, ◌≤◌, List, [], ◌∷◌, ◌++◌, All, Bool, true, false, None, take, drop, length, refl, sym, ap, subst, arith, inl, inr}
+use Rattle.std.specs.Prelude.{◌&&◌, int_lt}
 use Rattle.std.proofs.lemmas.Bool.{le-leb, lt-ltb, ltb-true}
 use Rattle.std.proofs.lemmas.List.Elements.{All-head, All-tail}
 use Rattle.spe_model.specs.declared.page.Cell.{Cell}
@@ -9,7 +9,7 @@ use Rattle.spe_model.specs.declared.page.Kind.TheVariants.{TableLeaf}
 use Rattle.spe_model.specs.Page.{above, ascends}
 use Rattle.spe_model.specs.Paging.{Paging}
 use Rattle.spe_model.specs.Tree.{rank, row_at, rows_of}
-use Rattle.spe_format.specs.Canonical.{AreWritable, IsWritable, cell_bytes, cells_length, fits}
+use Rattle.spe_format.specs.Canonical.{AreWritable, IsWritable, cells_length, fits}
 use Rattle.spe_cut.specs.Parts.{leaf_cells, need, room, without}
 use Rattle.spe_cut.proofs.RowLemmas.{other_rowid}
 use Rattle.spe_delete.specs.Leaf.{IsAmong}

@@ -1,7 +1,6 @@
 -- What becomes of a leaf that loses a row.
-use Rattle.std.proofs.Common.{◌≡◌, ◌≢◌, ℕ, ℤ, ◌+◌, ◌<◌, ◌≤◌, ◌∙◌, List, [], ◌∷◌, ◌++◌, true, Some, None, Ok, take, drop, refl, sym, ap, subst, arith}
+use Rattle.std.proofs.Common.{◌≡◌, ◌≢◌, ℕ, ℤ, ◌+◌, ◌∙◌, List, [], ◌∷◌, ◌++◌, Some, Ok, take, drop, refl, sym, ap, subst, arith}
 use Rattle.std.specs.List.{flat_map}
-use Rattle.std.specs.Prelude.{◌==◌}
 use Rattle.std.proofs.lemmas.List.{take-append-drop}
 use Rattle.spe_model.specs.declared.page.Cell.{Cell}
 use Rattle.spe_model.specs.declared.page.Kind.TheVariants.{TableLeaf}
@@ -9,12 +8,12 @@ use Rattle.spe_model.specs.Chain.{IsChain}
 use Rattle.spe_model.specs.Page.{page_at}
 use Rattle.spe_model.specs.Paging.{Paging}
 use Rattle.spe_model.specs.Standing.{all_pages, chain_pages}
-use Rattle.spe_model.specs.Tree.{AreRows, IsTree, cells_in, header_end, node_at, payload_of, rank, rest_of, row_at, rows_of, tree_rows}
+use Rattle.spe_model.specs.Tree.{AreRows, cells_in, header_end, node_at, payload_of, rank, rest_of, row_at, rows_of, tree_rows}
 use Rattle.spe_space.specs.declared.pages.Pages.{Ghosts}
 use Rattle.spe_space.specs.Calls.{sight}
 use Rattle.spe_frame.specs.Held.{AreHeld, IsReady, Shifts, Spares}
 use Rattle.spe_frame.specs.Laws.{HeldApart, ShiftsAlike, ShiftsBeside, ShiftsBoth, ShiftsNone, SparesAlike, SparesBeside, SparesBoth}
-use Rattle.spe_frame.specs.Times.{AreSame, Lacks, one_if, times}
+use Rattle.spe_frame.specs.Times.{AreSame, Lacks, times}
 use Rattle.spe_frame.proofs.TimesLemmas.{here, times-append}
 use Rattle.spe_write.specs.Chain.{IsHeldChain}
 use Rattle.spe_cut.specs.Gone.{CellDropsRow, RowDropped, without_row}
@@ -22,14 +21,14 @@ use Rattle.spe_cut.specs.Parts.{leaf_cells, without}
 use Rattle.spe_cut.specs.Rows.{KeptRowsStay, RowsStay}
 use Rattle.spe_cut.specs.Run.{AreKept}
 use Rattle.spe_cut.proofs.HolderLemmas.{IsMade, Reading}
-use Rattle.spe_insert.specs.Below.{IsPage, IsPlaceFor, LacksRow}
-use Rattle.spe_insert.specs.LeafStep.{IsAbove, IsGap, IsLeafOf}
+use Rattle.spe_insert.specs.Below.{IsPage, IsPlaceFor}
+use Rattle.spe_insert.specs.LeafStep.{IsGap, IsLeafOf}
 use Rattle.spe_insert.specs.Node.{LaysNode}
 use Rattle.spe_insert.proofs.GapLemmas.{rest_higher}
 use Rattle.spe_insert.proofs.LeafLemmas.{node_there}
 use Rattle.spe_insert.proofs.PutBelowLemmas.{others_kept}
 use Rattle.spe_insert.proofs.PutLeafLemmas.{leaf_other, read_is, rows_in_place}
-use Rattle.spe_delete.specs.Leaf.{DropsCell, IsAbsent, IsAmong, LosesRow}
+use Rattle.spe_delete.specs.Leaf.{DropsCell, IsAbsent, IsAmong}
 use Rattle.spe_delete.proofs.CutLemmas.{none_between}
 
 -- the laws of changes and of rows

@@ -1,15 +1,13 @@
 -- Two neighbours that become one page.
-use Rattle.std.proofs.Common.{◌≡◌, ◌≢◌, ℕ, ◌+◌, ◌<◌, ◌≤◌, ◌∙◌, List, [], ◌∷◌, ◌++◌, Ok, Option, refl, ap, arith, unwrap_or, subst, sym, true, false, Bool, take}
-use Rattle.std.specs.Prelude.{◌==◌, if◌then◌else◌}
+use Rattle.std.proofs.Common.{◌≡◌, ◌≢◌, ℕ, [], ◌∷◌, refl, arith}
 use Rattle.std.proofs.lemmas.Bool.{ne_eqb}
 use Rattle.spe_model.specs.declared.page.PageCells.{PageCells}
 use Rattle.spe_model.specs.Paging.{Paging}
-use Rattle.spe_model.specs.Tree.{header_end, node_at}
+use Rattle.spe_model.specs.Tree.{header_end}
 use Rattle.spe_space.specs.declared.pages.Pages.{Ghosts}
-use Rattle.spe_space.specs.Calls.{sight}
-use Rattle.spe_frame.specs.Held.{AreHeld, IsOthers, IsReady, Shifts, Spares}
+use Rattle.spe_frame.specs.Held.{AreHeld, IsOthers, Shifts, Spares}
 use Rattle.spe_frame.specs.Laws.{HeldApart, ShiftsAlike, ShiftsBeside, ShiftsBoth, SparesAlike, SparesBeside, SparesBoth}
-use Rattle.spe_frame.specs.Times.{AreSame, one_if, times}
+use Rattle.spe_frame.specs.Times.{AreSame}
 use Rattle.spe_insert.specs.Node.{LaysNode}
 use Rattle.spe_insert.proofs.LeafLemmas.{here_once, node_there}
 use Rattle.spe_delete.specs.Merge.{KeepsBoth, Merges}

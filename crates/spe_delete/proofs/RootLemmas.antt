@@ -1,15 +1,14 @@
 -- A root that gets a level less.
-use Rattle.std.proofs.Common.{◌≡◌, ◌≢◌, ℕ, suc, ◌+◌, ◌<◌, ◌≤◌, ◌∙◌, List, [], ◌∷◌, ◌++◌, Some, Option, refl, sym, ap, subst, arith, unwrap_or, take}
+use Rattle.std.proofs.Common.{◌≡◌, ◌≢◌, ℕ, suc, ◌≤◌, ◌∙◌, List, [], ◌∷◌, Option, refl, sym, ap, subst, arith, unwrap_or, take}
 use Rattle.spe_model.specs.Page.{page_at}
 use Rattle.spe_model.specs.Paging.{Paging}
-use Rattle.spe_model.specs.Served.{HasCells}
 use Rattle.spe_model.specs.Standing.{all_pages}
-use Rattle.spe_model.specs.Tree.{IsTree, header_end, tree_rows}
+use Rattle.spe_model.specs.Tree.{header_end}
 use Rattle.spe_space.specs.declared.pages.Pages.{Ghosts}
 use Rattle.spe_space.specs.Calls.{sight}
 use Rattle.spe_frame.specs.Held.{AreHeld, IsOthers, IsReady, Puts, Shifts, Spares}
 use Rattle.spe_frame.specs.Laws.{HeldApart, ShiftsAlike, ShiftsBeside, ShiftsBoth, ShiftsNone, SparesAlike, SparesBeside, SparesBoth}
-use Rattle.spe_frame.specs.Times.{AreSame, Lacks, one_if, times}
+use Rattle.spe_frame.specs.Times.{AreSame, times}
 use Rattle.spe_frame.proofs.TimesLemmas.{each_from_holds}
 use Rattle.spe_frame.proofs.TreeLemmas.{IsKept, lower_pages}
 use Rattle.spe_cut.specs.Run.{AreKept, IsHeld, alone}

@@ -1,4 +1,4 @@
-use Rattle.std.proofs.Common.{◌≡◌, ◌∙◌, ap, arith, to_z, of_z, w64, to_z-of_z, subst, ℕ, ℤ, drop}
+use Rattle.std.proofs.Common.{◌≡◌, ◌∙◌, ap, arith, to_z, of_z, w64, to_z-of_z, subst, ℤ}
 use Rattle.spe_model.specs.Tree.{rank}
 use Rattle.spe_insert.specs.LeafStep.{IsAbove, IsFrom, IsGap}
 use Rattle.spe_insert.specs.Place.{place_for}

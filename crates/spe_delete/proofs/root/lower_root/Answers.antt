@@ -1,4 +1,4 @@
-use Rattle.std.proofs.Common.{◌∙◌, ◌≡◌, arith, sym}
+use Rattle.std.proofs.Common.{arith}
 use Rattle.spe_delete.proofs.RootLemmas.{RootLaws, child_held, child_still, lowers, root_held}
 use Rattle.spe_delete.proofs.root.lower_root.Goals as goal
 
