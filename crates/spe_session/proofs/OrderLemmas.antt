@@ -1,7 +1,7 @@
 -- Free lists that stay in order where a page is put, or pages are added.
 use Rattle.std.proofs.Common.{inl, inr, ◌≡◌, ◌≢◌, ◌⊎◌, ◌+◌, ◌*◌, ◌^◌, ◌<◌, ◌≤◌, ◌∙◌, ℕ, List, [], ◌∷◌, ◌++◌, length, take, map, All, refl, sym, ap, subst, arith, ⊎_elim, true, false}
 use Rattle.std.specs.Prelude.{◌==◌, ◌&&◌, Bool, not, IsOk, IsTrue}
-use Rattle.std.specs.List.{flat_map, list_any}
+use Rattle.std.specs.List.{flat_map}
 use Rattle.std.proofs.lemmas.Bool.{eq-eqb, ne_eqb}
 use Rattle.spe_model.specs.Big.{u32_at}
 use Rattle.spe_model.specs.FreeList.{names_node}
@@ -14,7 +14,7 @@ use Rattle.spe_model.specs.Walk.{is_met}
 use Rattle.spe_space.specs.Free.{IsApart, IsLaterPage}
 use Rattle.spe_space.specs.Front.{list_in, number_in, recounted}
 use Rattle.spe_space.proofs.FrontLemmas.{u32_at-take}
-use Rattle.spe_frame.specs.Times.{one_if, times}
+use Rattle.spe_frame.specs.Times.{times}
 use Rattle.spe_frame.proofs.TimesLemmas.{all_from_holds, here, holds_from_all, same_or_not, there}
 use Rattle.spe_verdict.proofs.FreeLemmas.{free_complete}
 use Rattle.spe_verdict.proofs.TimesLemmas as verdict

@@ -1,9 +1,9 @@
 -- What a pager shows of its pages.
-use Rattle.std.proofs.Common.{◌≡◌, ◌≢◌, ◌⊎◌, ◌<◌, ◌≤◌, ◌∙◌, ℕ, List, [], ◌∷◌, length, All, Option, Some, None, Result, Ok, Err, OnOk, refl, sym, ap, subst, arith, ⊎_elim, inl, inr, unwrap_or, option_to_list}
-use Rattle.std.specs.Prelude.{IfSome, false, ◌&&◌, nat_lt, nat_le, Bool, if◌then◌else◌, replicate}
+use Rattle.std.proofs.Common.{◌≡◌, ◌≢◌, ◌≤◌, ◌∙◌, ℕ, List, [], ◌∷◌, length, All, Option, Some, None, Result, Ok, Err, OnOk, refl, sym, ap, subst, arith, ⊎_elim, unwrap_or, option_to_list}
+use Rattle.std.specs.Prelude.{IfSome, ◌&&◌, nat_lt, nat_le, Bool}
 use Rattle.std.proofs.lemmas.Bool.{cases_eq, le-leb, le-ltb}
 use Rattle.std.proofs.lemmas.List.Elements.{All-cons, All-head, All-nil}
-use Rattle.spe_model.specs.Paging.{Agrees, Given, PageMap, Paging, lay}
+use Rattle.spe_model.specs.Paging.{Given, PageMap, Paging}
 use Rattle.spe_session.specs.Below.{IsBelow}
 use Rattle.spe_session.specs.Pages.{AreSized, IsShown, KeepsSeen, ReadsOne, Sets, bytes_at, first_of, laid_in, laid_of, or_else}
 

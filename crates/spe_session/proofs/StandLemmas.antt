@@ -1,7 +1,6 @@
 -- Pages that stand in a pager, after a put and after pages were added.
-use Rattle.std.proofs.Common.{◌≡◌, ◌≢◌, ◌+◌, ◌^◌, ◌<◌, ◌≤◌, ◌∙◌, ℕ, List, length, take, Option, Some, Ok, refl, sym, ap, subst, arith, unwrap_or}
+use Rattle.std.proofs.Common.{◌≡◌, ◌+◌, ◌^◌, ◌<◌, ◌≤◌, ◌∙◌, ℕ, List, length, take, Option, Some, Ok, refl, sym, ap, subst, arith, unwrap_or}
 use Rattle.std.specs.Prelude.{IsOk}
-use Rattle.spe_model.specs.declared.header.Header.{Header}
 use Rattle.spe_model.specs.Header.{fields, header_of}
 use Rattle.spe_model.specs.Paging.{PageMap, Paging, lay}
 use Rattle.spe_space.specs.declared.fault.SpaceFault.{SpaceFault}

@@ -1,6 +1,6 @@
 //! The pages of one transaction.
 
-ghost use Rattle.std.specs.Prelude.{◌≡◌, ◌≤◌, ◌*◌, ◌+◌, ◌-◌, ◌^◌, ◌∷◌, ℕ, [], None, Some, IfSome, length, replicate, false, true};
+ghost use Rattle.std.specs.Prelude.{◌≡◌, ◌≤◌, ◌*◌, ◌+◌, ◌-◌, ◌/◌, ◌^◌, ◌∷◌, ℕ, [], None, Some, IfSome, length, replicate, false, true};
 ghost use Rattle.spe_model.specs.Paging.{Agrees, IsPageSize, IsUsableSize};
 ghost use Rattle.spe_model.specs.Settled.{IsWithinLimits};
 ghost use Rattle.spe_space.specs.Outcome.{IsInside, refusal_of};
@@ -102,6 +102,7 @@ impl<D: Disk, N: Opening, K: Beginning> Pager<D, N, K> {
         ensures size { ⟦<Pager<D, N, K> as Pages>⟧.size result ≡ found.now.page_size }
         ensures usable { ⟦<Pager<D, N, K> as Pages>⟧.used result ≡ found.now.page_size - found.now.reserved }
         ensures count { ⟦<Pager<D, N, K> as Pages>⟧.count result ≡ store.count }
+        ensures limit { ⟦<Pager<D, N, K> as Pages>⟧.limit result ≡ 2 ^ 30 / found.now.page_size }
         ensures told { ⟦<Pager<D, N, K> as Pages>⟧.told result ≡ below_of N.opened store }
         ensures seen { (n : ℕ) → ⟦<Pager<D, N, K> as Pages>⟧.seen result n ≡ [] }
         ensures laid { (n : ℕ) → ⟦<Pager<D, N, K> as Pages>⟧.laid result n ≡ None }

@@ -1,4 +1,4 @@
-use Rattle.std.proofs.Common.{rules, ◌∙◌, subst, sym, arith, List, ℕ, Some}
+use Rattle.std.proofs.Common.{rules, subst, sym}
 use Rattle.spe_session.specs.Pages.{IsShown, laid_in}
 use Rattle.spe_store.specs.Event.{seen_in}
 use Rattle.spe_session.proofs.PageLemmas.{clean_shown}

@@ -1,4 +1,4 @@
-use Rattle.std.proofs.Common.{rules, ◌≡◌, ◌∙◌, sym, ap, arith, length}
+use Rattle.std.proofs.Common.{◌≡◌, ◌∙◌, ap, length}
 use Rattle.spe_store.specs.Event.{seen_in}
 use Rattle.spe_session.specs.Below.{below_of}
 use Rattle.spe_session.proofs.PageLemmas.{below_kept, seen_kept, sized_kept}

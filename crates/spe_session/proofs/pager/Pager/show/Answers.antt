@@ -1,4 +1,3 @@
-use Rattle.std.proofs.Common.{refl}
 use Rattle.spe_store.specs.Event.{seen_in}
 use Rattle.spe_session.specs.Pages.{laid_in}
 use Rattle.spe_session.proofs.PageLemmas.{laid_none, shown_of}

@@ -1,10 +1,10 @@
-use Rattle.std.proofs.Common.{◌≡◌, ◌∙◌, ℕ, List, ap}
+use Rattle.std.proofs.Common.{◌∙◌, ℕ, ap}
 use Rattle.spe_model.specs.Paging.{lay}
 use Rattle.spe_space.specs.Front.{SpoilsFront}
 use Rattle.spe_store.specs.Event.{seen_in}
 use Rattle.spe_store.specs.Store.{Store}
 use Rattle.spe_session.specs.Below.{below_of}
-use Rattle.spe_session.specs.Lists.{AreInOrder, is_listed}
+use Rattle.spe_session.specs.Lists.{is_listed}
 use Rattle.spe_session.specs.Pages.{laid_in}
 use Rattle.spe_session.proofs.StandLemmas.{corrupt_of, put_stands}
 use Rattle.spe_session.proofs.paging.PagerPages.put.Goals as goal

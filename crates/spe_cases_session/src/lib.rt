@@ -1,0 +1,5 @@
+//! Tests of the pages of a transaction.
+#![tactic(auto)]
+
+#[cfg(test)]
+mod tests;

@@ -1,0 +1,3 @@
+mod begin;
+mod disk;
+mod rows;
