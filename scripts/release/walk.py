@@ -67,6 +67,17 @@ class Walk:
         self.same(path, "integrity_check after more rows", b"ok\n", sqlite.run(path, "PRAGMA integrity_check;"))
         self.same(path, "rows after more rows", b"300\n", sqlite.run(path, "SELECT count(*) FROM later;"))
 
+    def full(self, path):
+        """A file that lacks two pages to 2^30 bytes, and has no free page: there is room for one list, and not for two."""
+        rows = "WITH RECURSIVE n(i) AS (SELECT 1 UNION ALL SELECT i + 1 FROM n WHERE i < %d) INSERT INTO t(b) SELECT zeroblob(60000) FROM n;"
+        make = "PRAGMA page_size = 65536; PRAGMA synchronous = OFF; CREATE TABLE t(id INTEGER PRIMARY KEY, b BLOB);"
+        sqlite.run(path, make + rows % 16000)
+        pages = int(sqlite.run(path, "PRAGMA page_count;"))
+        sqlite.run(path, rows % (16382 - pages))
+        self.same(path, "pages", b"16382\n", sqlite.run(path, "PRAGMA page_count;"))
+        self.same(path, "two lists", (2, b"refused full 16382\n"), self.run("prepare", path, "2"))
+        self.same(path, "one list", (0, b"prepared lists 1 pages 16384\n"), self.run("prepare", path, "1"))
+
     def walk(self, seed, path):
         tables = databases.make(seed, path)
         if not os.path.getsize(path):
@@ -86,6 +97,7 @@ def main(program, folder):
         path = os.path.join(folder, f"{seed}.db")
         walk.walk(seed, path)
         os.remove(path)
+    walk.full(os.path.join(folder, "full.db"))
     counts = walk.counts
     print(f"databases {counts['released']} comparisons {counts['compared']} differences {counts['differences']}")
     return 1 if counts["differences"] else 0
