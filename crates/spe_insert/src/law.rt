@@ -9,7 +9,7 @@ use spe_space::Pages;
 /// Changes follow one another, beside more pages and in any order of them; a child is a tree among others,
 /// and where it becomes a run, so do all children, which a page or two halves hold; and such a tree
 /// never gets too deep.
-pub(crate) fn below_law<S: Pages>(space: &S)
+pub fn below_law<S: Pages>(space: &S)
     ensures { HaveLaws S.Pages }
 {
     shifts_law(space);

@@ -29,8 +29,9 @@ use spe_model::{Cell, Cells, Kind, PageCells, PageFault};
 use spe_space::{PageSpace, SpaceFault, TreeFault};
 use std::alloc::{AllocError, Global};
 
-// The cells of a leaf other than page 1, from a copy of it.
-pub(crate) fn leaf_in(
+/// The cells of a leaf other than page 1, from a copy of it. Corrupt names the page, where its bytes are no
+/// legal leaf of a table. ("B-tree Pages" in SQLite's Database File Format.)
+pub fn leaf_in(
     alloc: Global,
     bytes: &[u8],
     usable: usize,
@@ -58,16 +59,16 @@ pub(crate) fn leaf_in(
     Ok(cells)
 }
 
-// Whether two rowids are the same. If not, neither are their ranks.
-fn is_same(a: i64, b: i64) -> bool
+/// Whether two rowids are the same. If not, neither are their ranks.
+pub fn is_same(a: i64, b: i64) -> bool
     ensures same { result ≡ int_eq a b }
     ensures rank { result ≡ false → rank a ≢ rank b }
 {
     a == b
 }
 
-// Whether the first of some cells has the rowid.
-fn leads(cells: &[Cell], rowid: i64) -> bool
+/// Whether the first of some cells has the rowid.
+pub fn leads(cells: &[Cell], rowid: i64) -> bool
     ensures key { result ≡ leads_with rowid cells.now }
     ensures rank { result ≡ false → IsFrom (rank rowid) cells.now → IsAbove (rank rowid) cells.now }
 {

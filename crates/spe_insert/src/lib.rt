@@ -23,8 +23,13 @@ mod run_step;
 
 pub use cell::write_cell;
 pub use interior::lay_interior;
+pub use law::below_law;
 pub use leaf::{lay_leaf, lay_parts};
+pub use leaf_step::{is_same, leads, leaf_in};
+pub use look::look;
 pub use node::{lay_lower, lay_node};
-pub use place::{place_of, with_children};
+pub use place::{place_of, set_child, with_children};
+pub use root::raise_root;
 pub use row::insert;
-pub use run::Run;
+pub use run::{Run, ascends_in, last_key_of, one_child, run_behind};
+pub use run_step::{children_of, grown_at, put_run};

@@ -17,7 +17,7 @@ use std::alloc::Global;
 
 /// Copies a page that is held into `buf`, and says where it leads on the way to a rowid. Corrupt names
 /// the page, where it is no legal page of a table. It fails as `get` does.
-pub(crate) fn look<S: Pages>(
+pub fn look<S: Pages>(
     alloc: Global,
     space: &mut S,
     page: u32,

@@ -49,7 +49,7 @@ fn put_cells(cells: Vec<Cell>, place: usize, new: Vec<Cell>) -> Result<Vec<Cell>
 }
 
 /// The children with another at a place.
-pub(crate) fn set_child(children: Run, place: usize, child: u32) -> Run
+pub fn set_child(children: Run, place: usize, child: u32) -> Run
     requires { place ≤ length children.cells }
     ensures child { run_of result ≡ with_child (place_at place (run_of children)) child }
     ensures within { place ≤ length result.cells }

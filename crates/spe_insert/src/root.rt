@@ -22,7 +22,7 @@ use spe_space::{PageSpace, SpaceFault};
 ///
 /// `buf` is one page long and is written over. The root is got once, and both pages are put once. It
 /// fails as `get`, `alloc` and `put` do.
-pub(crate) fn raise_root<S: PageSpace>(
+pub fn raise_root<S: PageSpace>(
     space: &mut S,
     root: u32,
     run: Run,

@@ -19,7 +19,7 @@ pub struct Run {
 }
 
 /// One child alone.
-pub(crate) fn one_child(alloc: Global, page: u32) -> Run
+pub fn one_child(alloc: Global, page: u32) -> Run
     ensures { run_of result ≡ alone page }
 {
     Run {
@@ -29,7 +29,7 @@ pub(crate) fn one_child(alloc: Global, page: u32) -> Run
 }
 
 /// The run behind one child more, whose rowids are at most `key`.
-pub(crate) fn run_behind(alloc: Global, key: i64, page: u32, run: Run) -> Result<Run, AllocError>
+pub fn run_behind(alloc: Global, key: i64, page: u32, run: Run) -> Result<Run, AllocError>
     ensures { IfOk result (λ all. run_of all ≡ with_first (separator key page) (run_of run)) }
 {
     let Run { cells, right } = run;
@@ -51,7 +51,7 @@ pub(crate) fn run_behind(alloc: Global, key: i64, page: u32, run: Run) -> Result
 }
 
 /// The rowid of the last cell, or 0 where there is none.
-pub(crate) fn last_key_of(cells: &[Cell]) -> i64
+pub fn last_key_of(cells: &[Cell]) -> i64
     ensures { result ≡ last_key cells.now }
 {
     let mut key = 0;
@@ -64,7 +64,7 @@ pub(crate) fn last_key_of(cells: &[Cell]) -> i64
 }
 
 /// Whether the rowids of cells ascend.
-pub(crate) fn ascends_in(cells: &[Cell]) -> bool
+pub fn ascends_in(cells: &[Cell]) -> bool
     ensures { result ≡ ascends cells.now }
 {
     let [first, rest @ ..] = cells else {

@@ -29,9 +29,9 @@ use spe_model::{Kind, PageCells, PageFault};
 use spe_space::{PageSpace, SpaceFault, TreeFault};
 use std::alloc::{AllocError, Global};
 
-// The children of an interior page, whose bytes these are. Corrupt names the page, where it is no
-// legal interior page of a table.
-fn children_of(alloc: Global, page: u32, bytes: &[u8], usable: usize) -> Result<Run, TreeFault>
+/// The children of an interior page, whose bytes these are. Corrupt names the page, where it is no
+/// legal interior page of a table. ("B-tree Pages" in SQLite's Database File Format.)
+pub fn children_of(alloc: Global, page: u32, bytes: &[u8], usable: usize) -> Result<Run, TreeFault>
     requires low { 480 ≤ usable }
     requires high { usable ≤ 65536 }
     requires inside { usable ≤ length bytes.now }
@@ -57,8 +57,8 @@ fn children_of(alloc: Global, page: u32, bytes: &[u8], usable: usize) -> Result<
     Ok(Run { cells, right })
 }
 
-// The children with a run in the place of the one in which a rowid belongs, and whether that is the last.
-fn grown_at(children: Run, rowid: i64, run: Run) -> Result<(Run, bool), AllocError>
+/// The children with a run in the place of the one in which a rowid belongs, and whether that is the last.
+pub fn grown_at(children: Run, rowid: i64, run: Run) -> Result<(Run, bool), AllocError>
     ensures { IfOk result (λ all. run_of all.0 ≡ grown_in (run_of children) rowid (run_of run)) }
 {
     let place = place_of(children.cells.as_slice(), rowid);
@@ -74,7 +74,7 @@ fn grown_at(children: Run, rowid: i64, run: Run) -> Result<(Run, bool), AllocErr
 /// `buf` is one page long and is written over. The page is got once, and each page that changes is put
 /// once. Corrupt names the page, where it is no legal interior page of a table or its keys would not
 /// ascend. It fails as `get`, `alloc` and `put` do.
-pub(crate) fn put_run<S: PageSpace>(
+pub fn put_run<S: PageSpace>(
     alloc: Global,
     space: &mut S,
     page: u32,
