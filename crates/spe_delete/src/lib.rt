@@ -5,12 +5,15 @@
 //! has. Each step says of pages in use elsewhere that they stay, whatever it answers.
 #![tactic(auto)]
 
+mod below;
 mod cell;
 mod leaf;
 mod merge;
 mod root;
+mod row;
 
 pub use cell::free_cell;
 pub use leaf::drop_cell;
 pub use merge::merge_pages;
 pub use root::lower_root;
+pub use row::take_row;

@@ -1,0 +1,4 @@
+use Rattle.spe_delete.proofs.below.+take_below.Given as goal
+
+abbrev pub decreases-take_below : goal.decreases-take_below
+decreases-take_below g l = l.levels
