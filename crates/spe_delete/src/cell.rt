@@ -1,41 +1,21 @@
 //! Cells of a leaf, and the chain of one that goes.
 
-ghost use Rattle.std.specs.Prelude.{◌≡◌, ◌≢◌, ◌<◌, ◌≤◌, ℤ, [], drop, true, false, None, length, IfSome, OnOk};
-ghost use Rattle.std.specs.Ordering.{int_eq};
+ghost use Rattle.std.specs.Prelude.{◌≡◌, ◌<◌, ◌≤◌, ℤ, [], drop, true, false, None, length, IfSome, OnOk};
 ghost use Rattle.spe_model.specs.Standing.{chain_pages};
 ghost use Rattle.spe_model.specs.Tree.{rank, rest_of};
 ghost use Rattle.spe_space.specs.Calls.{Keeps, RefusesTree, sight};
 ghost use Rattle.spe_frame.specs.Held.{Shifts, Spares};
 ghost use Rattle.spe_write.specs.Chain.{IsLikelyOfTree, WhereChain};
 ghost use Rattle.spe_cut.specs.Parts.{without};
-ghost use Rattle.spe_insert.specs.LeafStep.{IsAbove, IsFrom, IsGap, leads_with};
+ghost use Rattle.spe_insert.specs.LeafStep.{IsGap, leads_with};
 ghost use Rattle.spe_insert.specs.Place.{place_for};
 ghost use Rattle.spe_delete.specs.Leaf.{IsAmong};
 
-use spe_insert::place_of;
+use spe_insert::{leads, place_of};
 use spe_model::{Cell, Cells};
 use spe_space::{PageSpace, TreeFault};
 use spe_write::free_chain;
 use std::alloc::Global;
-
-// Whether two rowids are the same. If not, neither are their ranks.
-fn is_same(a: i64, b: i64) -> bool
-    ensures same { result ≡ int_eq a b }
-    ensures rank { result ≡ false → rank a ≢ rank b }
-{
-    a == b
-}
-
-// Whether the first of some cells has the rowid.
-fn leads(cells: &[Cell], rowid: i64) -> bool
-    ensures key { result ≡ leads_with rowid cells.now }
-    ensures rank { result ≡ false → IsFrom (rank rowid) cells.now → IsAbove (rank rowid) cells.now }
-{
-    match cells {
-        [cell, ..] => is_same(cell.key, rowid),
-        _ => false,
-    }
-}
 
 /// The place of the cell with a rowid among cells that ascend, or None where no cell has it.
 pub(crate) fn place_of_row(cells: &[Cell], rowid: i64) -> Option<usize>

@@ -1,46 +1,20 @@
 //! A row that is taken out of the leaf that has it.
 
-ghost use Rattle.std.specs.Prelude.{◌≡◌, ◌≤◌, [], true, false, None, length, take, IfErr, IfOk, IfSome};
-ghost use Rattle.spe_model.specs.Page.{page_at};
+ghost use Rattle.std.specs.Prelude.{◌≡◌, false, None, length, IfOk, IfSome};
 ghost use Rattle.spe_model.specs.Standing.{all_pages};
 ghost use Rattle.spe_space.specs.Calls.{Keeps, Reads, RefusesTree, sight};
 ghost use Rattle.spe_frame.specs.Held.{Spares};
 ghost use Rattle.spe_write.specs.Chain.{IsLikelyOfTree};
 ghost use Rattle.spe_insert.specs.Below.{IsPage, WhereTree};
-ghost use Rattle.spe_insert.specs.LeafStep.{FailsLeaf, IsLeafOf};
 ghost use Rattle.spe_delete.specs.Leaf.{DropsCell, IsAbsent};
 
 use crate::cell::{free_cell, place_of_row, take_cell};
-use spe_cut::{gone_law, legal_fits, row_law};
-use spe_format::{legal_is_writable, read_page};
+use spe_cut::{gone_law, row_law};
 use spe_frame::shifts_law;
-use spe_insert::lay_lower;
-use spe_model::{Cells, Kind, PageCells, PageFault};
-use spe_space::{PageSpace, SpaceFault, TreeFault};
+use spe_insert::{lay_lower, leaf_in};
+use spe_model::{Cells, Kind, PageCells};
+use spe_space::{PageSpace, TreeFault};
 use std::alloc::Global;
-
-// The cells of a leaf other than page 1, from a copy of it.
-fn leaf_in(alloc: Global, bytes: &[u8], usable: usize, page: u32) -> Result<Cells, TreeFault>
-    requires low { 480 ≤ usable }
-    requires high { usable ≤ 65536 }
-    requires inside { usable ≤ length bytes.now }
-    ensures leaf { IfOk result (IsLeafOf usable bytes.now) }
-    ensures fault { IfErr result (FailsLeaf (page_at (take usable bytes.now) 0)) }
-{
-    let node = match read_page(alloc, bytes, 0, usable) {
-        Ok(node) => node,
-        Err(PageFault::Memory) => return Err(TreeFault::Space(SpaceFault::Memory)),
-        Err(_) => return Err(TreeFault::Corrupt { page }),
-    };
-    legal_is_writable(&node, bytes, 0, usable);
-    legal_fits(&node, bytes, 0, usable);
-    match node.kind {
-        Kind::TableLeaf => (),
-        _ => return Err(TreeFault::Corrupt { page }),
-    }
-    let PageCells { cells, .. } = node;
-    Ok(cells)
-}
 
 /// Takes the row with a rowid out of a leaf, and answers the cells that the leaf has then. `None`, and
 /// nothing is changed, where the leaf has no such row.

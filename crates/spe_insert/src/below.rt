@@ -8,9 +8,9 @@ ghost use Rattle.spe_write.specs.Chain.{IsLikelyOfTree};
 ghost use Rattle.spe_insert.specs.Below.{Becomes, IsShort, IsThere, WhereTree, pages_for};
 ghost use Rattle.spe_insert.specs.Run.{run_of};
 
+use crate::down::look;
 use crate::law::below_law;
 use crate::leaf_step::put_in_leaf;
-use crate::look::look;
 use crate::run::Run;
 use crate::run_step::put_run;
 use spe_search::Step;

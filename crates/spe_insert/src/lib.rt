@@ -8,11 +8,11 @@
 
 mod below;
 mod cell;
+mod down;
 mod interior;
 mod law;
 mod leaf;
 mod leaf_step;
-mod look;
 mod node;
 mod packed_leaf;
 mod place;
@@ -22,11 +22,11 @@ mod run;
 mod run_step;
 
 pub use cell::write_cell;
+pub use down::look;
 pub use interior::lay_interior;
 pub use law::below_law;
 pub use leaf::{lay_leaf, lay_parts};
 pub use leaf_step::{is_same, leads, leaf_in};
-pub use look::look;
 pub use node::{lay_lower, lay_node};
 pub use place::{place_of, set_child, with_children};
 pub use root::raise_root;

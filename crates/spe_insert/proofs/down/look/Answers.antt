@@ -1,6 +1,6 @@
 use Rattle.std.proofs.Common.{◌∙◌}
 use Rattle.spe_insert.proofs.LookLemmas.{no_table}
-use Rattle.spe_insert.proofs.look.look.Goals as goal
+use Rattle.spe_insert.proofs.down.look.Goals as goal
 
 pub returns-in-Err-Broken-clause-likely : goal.returns-in-Err-Broken-clause-likely
 returns-in-Err-Broken-clause-likely g c = λ pages agrees ready held height low high tree.
