@@ -4,6 +4,7 @@ pub mod Run
 pub mod Leaf
 pub mod Interior
 pub mod Place
+pub mod Edit
 pub mod Below
 pub mod LeafStep
 pub mod Step
