@@ -47,11 +47,11 @@ keeps_reads g s a reads = record {
 }
 
 -- what is said of the pages of a tree before a get is said of them after it
-seen_same : {P : Type 0} (g : Ghosts P) (s a : P) (pages : Paging) (Q : ℕ → Paging → Type 0) → Reads g s a → Q (g.used s) (sight g s pages) → Q (g.used a) (sight g a pages)
+pub seen_same : {P : Type 0} (g : Ghosts P) (s a : P) (pages : Paging) (Q : ℕ → Paging → Type 0) → Reads g s a → Q (g.used s) (sight g s pages) → Q (g.used a) (sight g a pages)
 seen_same g s a pages Q reads is =
     subst (λ (u : ℕ). Q u (sight g a pages)) (sym reads.used) (subst (λ (laid : PageMap). Q (g.used s) (lay laid pages)) (sym reads.laid) is)
 
-was_same : {P : Type 0} (g : Ghosts P) (s a : P) (pages : Paging) (Q : ℕ → Paging → Type 0) → Reads g s a → Q (g.used a) (sight g a pages) → Q (g.used s) (sight g s pages)
+pub was_same : {P : Type 0} (g : Ghosts P) (s a : P) (pages : Paging) (Q : ℕ → Paging → Type 0) → Reads g s a → Q (g.used a) (sight g a pages) → Q (g.used s) (sight g s pages)
 was_same g s a pages Q reads is =
     subst (λ (laid : PageMap). Q (g.used s) (lay laid pages)) reads.laid (subst (λ (u : ℕ). Q u (sight g a pages)) reads.used is)
 
@@ -78,7 +78,7 @@ page_held g laws s pages height low high page rowid placed =
     let first = first_of_tree (g.used s) (sight g s pages) height page in
     (laws.apart s pages (page ∷ []) first.rest (subst (AreHeld g s pages) first.is placed.held)).0
 
-placed_seen : {P : Type 0} (g : Ghosts P) (s a : P) (pages : Paging) (height low high page : ℕ) (rowid : ℤ) → Reads g s a → IsPlaceFor g s pages height low high page rowid
+pub placed_seen : {P : Type 0} (g : Ghosts P) (s a : P) (pages : Paging) (height low high page : ℕ) (rowid : ℤ) → Reads g s a → IsPlaceFor g s pages height low high page rowid
     → Shifts g s a pages (all_pages (g.used s) (sight g s pages) height page) (all_pages (g.used s) (sight g s pages) height page) 0
     → IsPlaceFor g a pages height low high page rowid
 placed_seen g s a pages height low high page rowid reads placed seen = record {

@@ -26,7 +26,7 @@ use Rattle.spe_cut.specs.Split.{ArePair, high_half, low_half, pair}
 use Rattle.spe_search.specs.declared.page.Step.TheVariants.{Child}
 use Rattle.spe_search.specs.Found.{IsStep}
 use Rattle.spe_search.proofs.FoundLemmas.{interior_leads}
-use Rattle.spe_insert.specs.Below.{Becomes, IsPlaceFor, IsThere, LacksRow, pages_for}
+use Rattle.spe_insert.specs.Below.{Becomes, IsPlaceFor, IsThere, pages_for}
 use Rattle.spe_insert.specs.Edit.{Edit, IsBefore, changes, edited, puts, size_of}
 use Rattle.spe_insert.specs.Interior.{LaysHalves, LaysRun, LaysWhole}
 use Rattle.spe_insert.specs.Laws.{HaveLaws}
@@ -192,7 +192,7 @@ child_placed g laws s pages h low high page rowid children child up has =
     }
 
 -- the tree has the child's row
-row_up : {P : Type 0} (g : Ghosts P) → HaveLaws g → (s : P) (pages : Paging) (h low high page : ℕ) (rowid : ℤ) (children : Run) (child : ℕ)
+pub row_up : {P : Type 0} (g : Ghosts P) → HaveLaws g → (s : P) (pages : Paging) (h low high page : ℕ) (rowid : ℤ) (children : Run) (child : ℕ)
     → IsUpper g s pages h low high page rowid children child → HasChild g s pages h low high page rowid children child
     → row_at rowid (tree_rows (g.used s) (sight g s pages) (suc h) page) ≡ row_at rowid (tree_rows (g.used s) (sight g s pages) h child)
 row_up g laws s pages h low high page rowid children child up has =

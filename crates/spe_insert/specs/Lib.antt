@@ -10,4 +10,5 @@ pub mod LeafStep
 pub mod Step
 pub mod Laws
 pub mod Insert
+pub mod Replace
 pub mod Root

@@ -1,5 +1,4 @@
-use Rattle.std.proofs.Common.{◌≡◌, ◌∙◌, ℕ, ℤ, List, ◌++◌, ◌∷◌, take, drop, length, refl, subst, sym, arith, to_z, of_z, w64, to_z-of_z}
-use Rattle.spe_model.specs.declared.page.Cell.{Cell}
+use Rattle.std.proofs.Common.{◌≡◌, ◌∙◌, ℕ, ℤ, ◌++◌, ◌∷◌, take, drop, length, refl, subst, sym, arith, to_z, of_z, w64, to_z-of_z}
 use Rattle.spe_model.specs.declared.page.Kind.TheVariants.{TableLeaf}
 use Rattle.spe_model.specs.Standing.{all_pages}
 use Rattle.spe_model.specs.Tree.{rank}
