@@ -20,7 +20,7 @@ Row = ℤ × List ℕ
 abbrev is_other : ℤ → Row → Bool
 is_other rowid r = not (int_eq r.0 rowid)
 
-same_rowid : (a : ℤ) → int_eq a a ≡ true
+pub same_rowid : (a : ℤ) → int_eq a a ≡ true
 same_rowid a = (Decides-int_eq a a).1 refl
 
 pub row_is_gone : RowIsGone
@@ -65,7 +65,7 @@ rows_wider usable pages low high low' high' (c ∷ cs) rows from to = (
 )
 
 -- a cell among rows is above the bound
-cell_above : (usable : ℕ) (pages : Paging) (low high : ℕ) (before : List Cell) (cell : Cell) (after : List Cell) → AreRows usable pages low high (before ++ (cell ∷ after))
+pub cell_above : (usable : ℕ) (pages : Paging) (low high : ℕ) (before : List Cell) (cell : Cell) (after : List Cell) → AreRows usable pages low high (before ++ (cell ∷ after))
     → low ≤ rank cell.key
 cell_above usable pages low high [] cell after rows = rows.0
 cell_above usable pages low high (c ∷ cs) cell after rows =

@@ -16,5 +16,6 @@ pub mod SpanLemmas
 pub mod ShortLemmas
 pub mod LegalLemmas
 pub mod GoneLemmas
+pub mod ChangedLemmas
 pub mod StretchLemmas
 pub mod JoinLemmas

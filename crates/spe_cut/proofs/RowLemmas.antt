@@ -125,7 +125,7 @@ no_row_behind usable pages cell [] higher = refl
 no_row_behind usable pages cell (d ∷ ds) higher =
     rw (other_rowid d.key cell.key (inr (All-head (HasHigher cell) d ds higher))) (no_row_behind usable pages cell ds (All-tail (HasHigher cell) d ds higher))
 
-no_row : (usable : ℕ) (pages : Paging) (before : List Cell) (cell : Cell) (after : List Cell) → All (HasLower cell) before → All (HasHigher cell) after
+pub no_row : (usable : ℕ) (pages : Paging) (before : List Cell) (cell : Cell) (after : List Cell) → All (HasLower cell) before → All (HasHigher cell) after
     → row_at cell.key (rows_of usable pages (before ++ after)) ≡ None
 no_row usable pages [] cell after lower higher = no_row_behind usable pages cell after higher
 no_row usable pages (c ∷ cs) cell after lower higher =

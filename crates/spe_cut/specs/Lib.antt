@@ -7,5 +7,6 @@ pub mod Depth
 pub mod Parts
 pub mod Place
 pub mod Gone
+pub mod Changed
 pub mod Stretch
 pub mod Joined

@@ -3,6 +3,7 @@
 ghost use Rattle.std.specs.Prelude.{◌≡◌, ◌≤◌, Ok, take};
 ghost use Rattle.spe_model.specs.Page.{page_at};
 ghost use Rattle.spe_cut.specs.Parts.{need, room};
+ghost use Rattle.spe_cut.specs.Changed.{CellChangesRow, RowIsChanged};
 ghost use Rattle.spe_cut.specs.Child.{AboveCells, ChildBecomesRun, ChildOfRun, RowOfChild};
 ghost use Rattle.spe_cut.specs.Depth.{FilledTreeIsWide, RootStaysLow, SingleTreeIsWide};
 ghost use Rattle.spe_cut.specs.Leaf.{PartsAreRun};
@@ -47,6 +48,13 @@ pub fn row_law()
     ensures there { RowIsThere }
     ensures stay { KeptRowsStay }
     ensures ascends { RowsAscend }
+{}
+
+/// Another payload in a row: in the cells of a leaf, of which one makes room for another, and in all rows
+/// where some of them have it.
+pub fn change_law()
+    ensures cell { CellChangesRow }
+    ensures changed { RowIsChanged }
 {}
 
 /// A tree with cells on its interior pages takes many pages, so it never gets too deep.

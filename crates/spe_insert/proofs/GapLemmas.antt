@@ -110,7 +110,7 @@ writable_with usable rowid cells place cell is gap same form =
     }
 
 -- without it they are the cells again
-before_with : (n : ℕ) (before : List Cell) (cell : Cell) (after : List Cell) → length before ≡ n → without n (before ++ (cell ∷ after)) ≡ before ++ after
+pub before_with : (n : ℕ) (before : List Cell) (cell : Cell) (after : List Cell) → length before ≡ n → without n (before ++ (cell ∷ after)) ≡ before ++ after
 before_with zero [] cell after long = refl
 before_with zero (d ∷ ds) cell after long = absurd (omega (arith, long))
 before_with (suc n) [] cell after long = absurd (omega (arith, long))

@@ -14,3 +14,6 @@ pub mod RaiseLemmas
 pub mod GapLemmas
 pub mod PutLeafLemmas
 pub mod PackedLeafLemmas
+pub mod ReplaceLeafLemmas
+pub mod ReplaceBelowLemmas
+pub mod OtherCellLemmas

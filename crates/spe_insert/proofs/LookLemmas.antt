@@ -11,7 +11,6 @@ use Rattle.spe_space.specs.Calls.{Keeps, Reads, sight}
 use Rattle.spe_space.specs.Front.{number_in}
 use Rattle.spe_frame.specs.Held.{AreHeld, IsReady, Shifts, Spares}
 use Rattle.spe_frame.specs.Times.{times}
-use Rattle.spe_cut.specs.Rows.{with_row}
 use Rattle.spe_cut.specs.Run.{AreFilledBelow, IsRun, Run, high_at, low_at, pages_in, rows_in}
 use Rattle.spe_search.specs.declared.page.Found.{Found}
 use Rattle.spe_search.specs.declared.page.Step.{Step}
@@ -21,6 +20,7 @@ use Rattle.spe_search.specs.Step.{IsNoTable}
 use Rattle.spe_search.proofs.FoundLemmas.{interior_leads, leaf_leads, no_interior, no_leaf}
 use Rattle.spe_search.proofs.TreeLemmas.{row_found, row_missing}
 use Rattle.spe_insert.specs.Below.{Becomes, IsPlaceFor, IsShort, IsThere, LacksRow, pages_for}
+use Rattle.spe_insert.specs.Edit.{Edit, IsBefore, edited, size_of}
 use Rattle.spe_insert.specs.Interior.{LaysRun}
 use Rattle.spe_insert.specs.Laws.{HaveLaws}
 use Rattle.spe_insert.specs.Step.{IsBegun, grown_in, place_in}
@@ -47,11 +47,11 @@ keeps_reads g s a reads = record {
 }
 
 -- what is said of the pages of a tree before a get is said of them after it
-seen_same : {P : Type 0} (g : Ghosts P) (s a : P) (pages : Paging) (Q : ℕ → Paging → Type 0) → Reads g s a → Q (g.used s) (sight g s pages) → Q (g.used a) (sight g a pages)
+pub seen_same : {P : Type 0} (g : Ghosts P) (s a : P) (pages : Paging) (Q : ℕ → Paging → Type 0) → Reads g s a → Q (g.used s) (sight g s pages) → Q (g.used a) (sight g a pages)
 seen_same g s a pages Q reads is =
     subst (λ (u : ℕ). Q u (sight g a pages)) (sym reads.used) (subst (λ (laid : PageMap). Q (g.used s) (lay laid pages)) (sym reads.laid) is)
 
-was_same : {P : Type 0} (g : Ghosts P) (s a : P) (pages : Paging) (Q : ℕ → Paging → Type 0) → Reads g s a → Q (g.used a) (sight g a pages) → Q (g.used s) (sight g s pages)
+pub was_same : {P : Type 0} (g : Ghosts P) (s a : P) (pages : Paging) (Q : ℕ → Paging → Type 0) → Reads g s a → Q (g.used a) (sight g a pages) → Q (g.used s) (sight g s pages)
 was_same g s a pages Q reads is =
     subst (λ (laid : PageMap). Q (g.used s) (lay laid pages)) reads.laid (subst (λ (u : ℕ). Q u (sight g a pages)) reads.used is)
 
@@ -78,7 +78,7 @@ page_held g laws s pages height low high page rowid placed =
     let first = first_of_tree (g.used s) (sight g s pages) height page in
     (laws.apart s pages (page ∷ []) first.rest (subst (AreHeld g s pages) first.is placed.held)).0
 
-placed_seen : {P : Type 0} (g : Ghosts P) (s a : P) (pages : Paging) (height low high page : ℕ) (rowid : ℤ) → Reads g s a → IsPlaceFor g s pages height low high page rowid
+pub placed_seen : {P : Type 0} (g : Ghosts P) (s a : P) (pages : Paging) (height low high page : ℕ) (rowid : ℤ) → Reads g s a → IsPlaceFor g s pages height low high page rowid
     → Shifts g s a pages (all_pages (g.used s) (sight g s pages) height page) (all_pages (g.used s) (sight g s pages) height page) 0
     → IsPlaceFor g a pages height low high page rowid
 placed_seen g s a pages height low high page rowid reads placed seen = record {
@@ -104,21 +104,21 @@ spares_seen g laws s a e pages height page size reads seen spares =
     subst (Spares g s e pages all) (no_more count)
     (laws.fails s a e pages all all 0 count seen (was_same g s a pages (λ u p. Spares g a e pages (all_pages u p height page) (pages_for u height size)) reads spares))
 
-pub becomes_seen : {P : Type 0} (g : Ghosts P) → HaveLaws g → (s a e : P) (pages : Paging) (height low high page : ℕ) (rowid : ℤ) (payload : List ℕ) (run : Run) → Reads g s a
+pub becomes_seen : {P : Type 0} (g : Ghosts P) → HaveLaws g → (s a e : P) (pages : Paging) (height low high page : ℕ) (rowid : ℤ) (edit : Edit) (run : Run) → Reads g s a
     → Shifts g s a pages (all_pages (g.used s) (sight g s pages) height page) (all_pages (g.used s) (sight g s pages) height page) 0
-    → Becomes g a e pages height low high page rowid payload run → Becomes g s e pages height low high page rowid payload run
-becomes_seen g laws s a e pages height low high page rowid payload run reads seen x =
+    → Becomes g a e pages height low high page rowid edit run → Becomes g s e pages height low high page rowid edit run
+becomes_seen g laws s a e pages height low high page rowid edit run reads seen x =
     let all = all_pages (g.used s) (sight g s pages) height page in
-    let count = pages_for (g.used s) height (length payload) in
-    let then_ = was_same g s a pages (λ u p. Shifts g a e pages (all_pages u p height page) (pages_in u (sight g e pages) height run) (pages_for u height (length payload))) reads x.shifts in
+    let count = pages_for (g.used s) height (size_of edit) in
+    let then_ = was_same g s a pages (λ u p. Shifts g a e pages (all_pages u p height page) (pages_in u (sight g e pages) height run) (pages_for u height (size_of edit))) reads x.shifts in
     record {
-      absent = was_same g s a pages (λ u p. row_at rowid (tree_rows u p height page) ≡ None) reads x.absent;
+      before = was_same g s a pages (λ u p. IsBefore edit (row_at rowid (tree_rows u p height page))) reads x.before;
       is = was_same g s a pages (λ u p. IsRun u (sight g e pages) height low high run) reads x.is;
       last = x.last;
       first = x.first;
       filled = was_same g s a pages (λ u p. HasCells u p height page → AreFilledBelow u (sight g e pages) height run) reads x.filled;
       below = was_same g s a pages (λ u p. HasCells u p height page → 1 ≤ length run.cells → number_in p * 512 ≤ 2 ^ 30 → height + 1 < 20) reads x.below;
-      rows = was_same g s a pages (λ u p. rows_in u (sight g e pages) height run ≡ with_row rowid payload (tree_rows u p height page)) reads x.rows;
+      rows = was_same g s a pages (λ u p. rows_in u (sight g e pages) height run ≡ edited edit rowid (tree_rows u p height page)) reads x.rows;
       shifts = subst (Shifts g s e pages all (pages_in (g.used s) (sight g e pages) height run)) (no_more count) (laws.both s a e pages all all _ 0 count seen then_);
     }
 
@@ -212,21 +212,21 @@ at_child g laws s a pages low high page rowid child Q (suc h) looked placed go =
     }) refl
 
 -- the child became a run, and the page was put
-pub record IsReturn {P : Type 0} (g : Ghosts P) (s a m : P) (pages : Paging) (h low high page : ℕ) (rowid : ℤ) (payload : List ℕ) (child : ℕ) (run : Run) : Type 0 where
+pub record IsReturn {P : Type 0} (g : Ghosts P) (s a m : P) (pages : Paging) (h low high page : ℕ) (rowid : ℤ) (edit : Edit) (child : ℕ) (run : Run) : Type 0 where
   pub down : IsAtChild g s a pages h low high page rowid child
-  pub grown : IsGrownBelow g a m pages h low high page rowid payload down.children run
+  pub grown : IsGrownBelow g a m pages h low high page rowid edit down.children run
   pub ready : IsReady g m pages
   pub held : AreHeld g m pages (page ∷ [])
   pub used : g.used m ≡ g.used a
   pub begun : IsBegun (g.used m) (sight g m pages) page down.children rowid run
   pub ascends_ : ascends (grown_in down.children rowid run).cells ≡ true
 
-pub returns_from : {P : Type 0} (g : Ghosts P) → HaveLaws g → (s a m : P) (pages : Paging) (h low high page : ℕ) (rowid : ℤ) (payload : List ℕ) (child : ℕ) (run : Run)
+pub returns_from : {P : Type 0} (g : Ghosts P) → HaveLaws g → (s a m : P) (pages : Paging) (h low high page : ℕ) (rowid : ℤ) (edit : Edit) (child : ℕ) (run : Run)
     → (down : IsAtChild g s a pages h low high page rowid child)
-    → Becomes g a m pages h (low_at low (place_in down.children rowid)) (high_at high (place_in down.children rowid)) child rowid payload run
-    → IsReturn g s a m pages h low high page rowid payload child run
-returns_from g laws s a m pages h low high page rowid payload child run down becomes =
-    let grown = child_grown g laws a m pages h low high page rowid payload down.children child run down.up down.has becomes in
+    → Becomes g a m pages h (low_at low (place_in down.children rowid)) (high_at high (place_in down.children rowid)) child rowid edit run
+    → IsReturn g s a m pages h low high page rowid edit child run
+returns_from g laws s a m pages h low high page rowid edit child run down becomes =
+    let grown = child_grown g laws a m pages h low high page rowid edit down.children child run down.up down.has becomes in
     let used : g.used m ≡ g.used a = grown.shifts.spares.sizes.used in
     let all = grown_in down.children rowid run in
     record {
@@ -239,12 +239,12 @@ returns_from g laws s a m pages h low high page rowid payload child run down bec
       ascends_ = laws.ascends (g.used a) (sight g m pages) h low high all grown.is;
     }
 
-pub becomes_up : {P : Type 0} (g : Ghosts P) → HaveLaws g → (s a m e : P) (pages : Paging) (h low high page : ℕ) (rowid : ℤ) (payload : List ℕ) (child : ℕ) (run new : Run)
-    → Reads g s a → 5 ≤ g.used s → (512 ≤ g.size a) × (g.limit a * g.size a ≤ 2 ^ 30) → (back : IsReturn g s a m pages h low high page rowid payload child run)
-    → LaysRun g m e pages page (grown_in back.down.children rowid run) new → Becomes g s e pages (suc h) low high page rowid payload new
-becomes_up g laws s a m e pages h low high page rowid payload child run new reads wide bounded back lays =
-    becomes_seen g laws s a e pages (suc h) low high page rowid payload new reads back.down.seen
-    (becomes_laid g laws a m e pages h low high page rowid payload back.down.children run new (record {
+pub becomes_up : {P : Type 0} (g : Ghosts P) → HaveLaws g → (s a m e : P) (pages : Paging) (h low high page : ℕ) (rowid : ℤ) (edit : Edit) (child : ℕ) (run new : Run)
+    → Reads g s a → 5 ≤ g.used s → (512 ≤ g.size a) × (g.limit a * g.size a ≤ 2 ^ 30) → (back : IsReturn g s a m pages h low high page rowid edit child run)
+    → LaysRun g m e pages page (grown_in back.down.children rowid run) new → Becomes g s e pages (suc h) low high page rowid edit new
+becomes_up g laws s a m e pages h low high page rowid edit child run new reads wide bounded back lays =
+    becomes_seen g laws s a e pages (suc h) low high page rowid edit new reads back.down.seen
+    (becomes_laid g laws a m e pages h low high page rowid edit back.down.children run new (record {
       wide = seen_same g s a pages (λ v q. 5 ≤ v) reads wide;
       bounded = bounded;
       placed = back.down.up.placed;
@@ -253,14 +253,14 @@ becomes_up g laws s a m e pages h low high page rowid payload child run new read
     }) lays)
 
 -- a page that could not be put after its child became a run
-pub spares_back : {P : Type 0} (g : Ghosts P) → HaveLaws g → (s a m e : P) (pages : Paging) (h low high page : ℕ) (rowid : ℤ) (payload : List ℕ) (child : ℕ) (run : Run)
-    → Reads g s a → (back : IsReturn g s a m pages h low high page rowid payload child run) → Spares g m e pages (page ∷ []) 1
-    → Spares g s e pages (all_pages (g.used s) (sight g s pages) (suc h) page) (pages_for (g.used s) (suc h) (length payload))
-spares_back g laws s a m e pages h low high page rowid payload child run reads back spares =
+pub spares_back : {P : Type 0} (g : Ghosts P) → HaveLaws g → (s a m e : P) (pages : Paging) (h low high page : ℕ) (rowid : ℤ) (edit : Edit) (child : ℕ) (run : Run)
+    → Reads g s a → (back : IsReturn g s a m pages h low high page rowid edit child run) → Spares g m e pages (page ∷ []) 1
+    → Spares g s e pages (all_pages (g.used s) (sight g s pages) (suc h) page) (pages_for (g.used s) (suc h) (size_of edit))
+spares_back g laws s a m e pages h low high page rowid edit child run reads back spares =
     let all = all_pages (g.used a) (sight g a pages) (suc h) page in
     let below = pages_in (g.used a) (sight g m pages) h (grown_in back.down.children rowid run) in
-    let count = pages_for (g.used a) h (length payload) in
-    spares_seen g laws s a e pages (suc h) page (length payload) reads back.down.seen
+    let count = pages_for (g.used a) h (size_of edit) in
+    spares_seen g laws s a e pages (suc h) page (size_of edit) reads back.down.seen
     (subst (Spares g a e pages all) (one_more _ h) (laws.fails a m e pages all (page ∷ below) count 1 back.grown.shifts (laws.fails_beside m e pages (page ∷ []) below 1 spares)))
 
 less_more : (links h : ℕ) → links + (3 + h) ≤ links + (3 + suc h)

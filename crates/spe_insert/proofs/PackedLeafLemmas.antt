@@ -1,13 +1,11 @@
 -- A row that is put into a leaf in place.
-use Rattle.std.proofs.Common.{◌≡◌, ◌≢◌, ℕ, ℤ, ◌+◌, ◌<◌, ◌≤◌, ◌∙◌, List, [], ◌∷◌, ◌++◌, All, false, Result, Ok, take, drop, length, refl, sym, ap, subst, arith, append-nil, length-append}
+use Rattle.std.proofs.Common.{◌≡◌, ◌≢◌, ℕ, ℤ, ◌<◌, ◌≤◌, ◌∙◌, List, [], ◌∷◌, ◌++◌, All, false, Ok, take, drop, length, refl, sym, ap, subst, arith, append-nil, length-append}
 use Rattle.std.proofs.lemmas.List.{drop_at, take_at}
 use Rattle.std.proofs.lemmas.List.Elements.{All-head}
 use Rattle.spe_model.specs.declared.page.Cell.{Cell}
-use Rattle.spe_model.specs.declared.page.PageCells.{PageCells}
-use Rattle.spe_model.specs.declared.page.PageFault.{PageFault}
 use Rattle.spe_model.specs.Page.{page_at}
 use Rattle.spe_model.specs.Paging.{Paging}
-use Rattle.spe_model.specs.Tree.{cells_in, header_end, rank}
+use Rattle.spe_model.specs.Tree.{cells_in, rank}
 use Rattle.spe_format.specs.declared.slot.Slot.{Slot}
 use Rattle.spe_format.specs.Packed.{IsSlot, IsSlotFor}
 use Rattle.spe_space.specs.declared.pages.Pages.{Ghosts}

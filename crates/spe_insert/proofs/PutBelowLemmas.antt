@@ -21,12 +21,13 @@ use Rattle.spe_frame.specs.Times.{AreSame, Lacks, times}
 use Rattle.spe_frame.proofs.TimesLemmas.{here, times-append}
 use Rattle.spe_cut.specs.Child.{IsChild, RunGrows}
 use Rattle.spe_cut.specs.Run.{AreFilledBelow, AreKept, HoldsRun, IsHeld, IsHolder, IsRun, Place, inner, last, Run, alone, cells_before, high_at, low_at, pages_beside, pages_in, rows_in, with_child, with_run}
-use Rattle.spe_cut.specs.Rows.{with_row}
+use Rattle.spe_cut.specs.Rows.{RowsBecome}
 use Rattle.spe_cut.specs.Split.{ArePair, high_half, low_half, pair}
 use Rattle.spe_search.specs.declared.page.Step.TheVariants.{Child}
 use Rattle.spe_search.specs.Found.{IsStep}
 use Rattle.spe_search.proofs.FoundLemmas.{interior_leads}
-use Rattle.spe_insert.specs.Below.{Becomes, IsPlaceFor, IsThere, LacksRow, pages_for}
+use Rattle.spe_insert.specs.Below.{Becomes, IsPlaceFor, IsThere, pages_for}
+use Rattle.spe_insert.specs.Edit.{Edit, IsBefore, changes, edited, puts, size_of}
 use Rattle.spe_insert.specs.Interior.{LaysHalves, LaysRun, LaysWhole}
 use Rattle.spe_insert.specs.Laws.{HaveLaws}
 use Rattle.spe_insert.specs.Place.{place_at, place_behind, place_for}
@@ -191,7 +192,7 @@ child_placed g laws s pages h low high page rowid children child up has =
     }
 
 -- the tree has the child's row
-row_up : {P : Type 0} (g : Ghosts P) → HaveLaws g → (s : P) (pages : Paging) (h low high page : ℕ) (rowid : ℤ) (children : Run) (child : ℕ)
+pub row_up : {P : Type 0} (g : Ghosts P) → HaveLaws g → (s : P) (pages : Paging) (h low high page : ℕ) (rowid : ℤ) (children : Run) (child : ℕ)
     → IsUpper g s pages h low high page rowid children child → HasChild g s pages h low high page rowid children child
     → row_at rowid (tree_rows (g.used s) (sight g s pages) (suc h) page) ≡ row_at rowid (tree_rows (g.used s) (sight g s pages) h child)
 row_up g laws s pages h low high page rowid children child up has =
@@ -228,15 +229,15 @@ spares_up g laws s e pages h low high page rowid children child count has spares
     laws.fails_alike s e pages (mine ++ others) all count (λ n. sym (has.same n)) (laws.fails_beside s e pages mine others count spares)
 
 -- the children once the child became a run, while the page still has them as they were
-pub record IsGrownBelow {P : Type 0} (g : Ghosts P) (s e : P) (pages : Paging) (h low high page : ℕ) (rowid : ℤ) (payload : List ℕ) (children run : Run) : Type 0 where
-  pub absent : LacksRow g s pages (suc h) page rowid
+pub record IsGrownBelow {P : Type 0} (g : Ghosts P) (s e : P) (pages : Paging) (h low high page : ℕ) (rowid : ℤ) (edit : Edit) (children run : Run) : Type 0 where
+  pub before : IsBefore edit (row_at rowid (tree_rows (g.used s) (sight g s pages) (suc h) page))
   pub begun : IsBegun (g.used s) (sight g e pages) page children rowid run
   pub is : IsRun (g.used s) (sight g e pages) h low high (grown_in children rowid run)
   pub filled : HasCells (g.used s) (sight g s pages) (suc h) page
       → (1 ≤ length (grown_in children rowid run).cells) × AreFilledBelow (g.used s) (sight g e pages) h (grown_in children rowid run)
-  pub rows : rows_in (g.used s) (sight g e pages) h (grown_in children rowid run) ≡ with_row rowid payload (tree_rows (g.used s) (sight g s pages) (suc h) page)
+  pub rows : rows_in (g.used s) (sight g e pages) h (grown_in children rowid run) ≡ edited edit rowid (tree_rows (g.used s) (sight g s pages) (suc h) page)
   pub shifts : Shifts g s e pages (all_pages (g.used s) (sight g s pages) (suc h) page) (page ∷ pages_in (g.used s) (sight g e pages) h (grown_in children rowid run))
-      (pages_for (g.used s) h (length payload))
+      (pages_for (g.used s) h (size_of edit))
 
 cells_more : (place : Place) (child : ℕ) (run : Run) → length (with_child place child).cells ≤ length (with_run place run).cells
 cells_more (inner before c after right) child run =
@@ -255,18 +256,24 @@ has_cell page run later filled = elim filled [ inl first ↦ absurd (later first
 behind_first_page : (n page : ℕ) (all grown beside : List ℕ) → times n all ≡ times n (grown ++ beside) → times n (grown ++ (page ∷ beside)) ≡ times n (page ∷ all)
 behind_first_page n page all grown beside e = omega (arith, e, times-append n grown beside, times-append n grown (page ∷ beside))
 
-pub child_grown : {P : Type 0} (g : Ghosts P) → HaveLaws g → (s e : P) (pages : Paging) (h low high page : ℕ) (rowid : ℤ) (payload : List ℕ) (children : Run) (child : ℕ) (run : Run)
+-- rows between two bounds are edited as all are
+row_is_edited : {P : Type 0} (g : Ghosts P) → HaveLaws g → (edit : Edit) (low high : ℕ) (part part' whole whole' : List (ℤ × List ℕ)) (rowid : ℤ) → RowsBecome low high part part' whole whole'
+    → low ≤ rank rowid → rank rowid < high → part' ≡ edited edit rowid part → whole' ≡ edited edit rowid whole
+row_is_edited g laws (puts payload) low high part part' whole whole' rowid becomes from to is = laws.put low high part part' whole whole' rowid payload becomes from to is
+row_is_edited g laws (changes payload) low high part part' whole whole' rowid becomes from to is = laws.changed low high part part' whole whole' rowid payload becomes from to is
+
+pub child_grown : {P : Type 0} (g : Ghosts P) → HaveLaws g → (s e : P) (pages : Paging) (h low high page : ℕ) (rowid : ℤ) (edit : Edit) (children : Run) (child : ℕ) (run : Run)
     → IsUpper g s pages h low high page rowid children child → HasChild g s pages h low high page rowid children child
-    → Becomes g s e pages h (low_at low (place_in children rowid)) (high_at high (place_in children rowid)) child rowid payload run
-    → IsGrownBelow g s e pages h low high page rowid payload children run
-child_grown g laws s e pages h low high page rowid payload children child run up has becomes =
+    → Becomes g s e pages h (low_at low (place_in children rowid)) (high_at high (place_in children rowid)) child rowid edit run
+    → IsGrownBelow g s e pages h low high page rowid edit children run
+child_grown g laws s e pages h low high page rowid edit children child run up has becomes =
     let u = g.used s in
     let p = sight g s pages in
     let q = sight g e pages in
     let pl = place_in children rowid in
     let mine = all_pages u p h child in
     let beside = pages_beside u p h pl in
-    let count = pages_for u h (length payload) in
+    let count = pages_for u h (size_of edit) in
     let all = grown_in children rowid run in
     let lacks : Lacks (mine ++ (page ∷ beside)) 1 = sym (has.same 1) ∙ up.placed.later in
     let kept : AreKept p q (page ∷ beside) = others_kept g s e pages mine (page ∷ beside) count has.held lacks becomes.shifts.spares in
@@ -279,7 +286,7 @@ child_grown g laws s e pages h low high page rowid payload children child run up
     let later = later_page page (all_pages u p (suc h) page) (pages_in u p h children) has.held_by.pages_are up.placed.later in
     let same : q page ≡ p page = kept page (let e = here page page beside refl in omega (arith, e)) in
     record {
-      absent = row_up g laws s pages h low high page rowid children child up has ∙ becomes.absent;
+      before = subst (IsBefore edit) (sym (row_up g laws s pages h low high page rowid children child up has)) becomes.before;
       begun = record {
         holds = holder_kept u p q page children same up.holds;
         first = ap (with_child pl) becomes.first ∙ up.is_child;
@@ -290,19 +297,19 @@ child_grown g laws s e pages h low high page rowid payload children child run up
           let were : AreFilledBelow u p h (with_child pl child) = subst (AreFilledBelow u p h) (sym up.is_child) below.1 in
           let some : 1 ≤ length (with_child pl child).cells = subst (λ (r : Run). 1 ≤ length r.cells) (sym up.is_child) (has_cell page children later below.0) in
           (omega (arith, some, cells_more pl child run), grown.filled were (becomes.filled (has.one.filled were)));
-      rows = laws.put (low_at low pl) (high_at high pl) (tree_rows u p h child) (rows_in u q h run) (rows_in u p h (with_child pl child)) (rows_in u q h all) rowid payload
+      rows = row_is_edited g laws edit (low_at low pl) (high_at high pl) (tree_rows u p h child) (rows_in u q h run) (rows_in u p h (with_child pl child)) (rows_in u q h all) rowid
           grown.rows has.from up.under becomes.rows
-          ∙ ap (with_row rowid payload) (ap (rows_in u p h) up.is_child ∙ sym has.held_by.rows);
+          ∙ ap (edited edit rowid) (ap (rows_in u p h) up.is_child ∙ sym has.held_by.rows);
       shifts = laws.alike s e pages (mine ++ (page ∷ beside)) (pages_in u q h run ++ (page ∷ beside)) (all_pages u p (suc h) page) (page ∷ pages_in u q h all) count
           (λ n. sym (has.same n)) (λ n. behind_first_page n page (pages_in u q h all) (pages_in u q h run) beside (grown.pages_are n))
           (laws.beside s e pages mine (pages_in u q h run) (page ∷ beside) count becomes.shifts);
     }
 
 -- the children after the page was put, alone or in halves
-pub record IsLaid {P : Type 0} (g : Ghosts P) (s e : P) (pages : Paging) (h low high : ℕ) (rowid : ℤ) (payload : List ℕ) (page : ℕ) (all : Run) : Type 0 where
+pub record IsLaid {P : Type 0} (g : Ghosts P) (s e : P) (pages : Paging) (h low high : ℕ) (rowid : ℤ) (edit : Edit) (page : ℕ) (all : Run) : Type 0 where
   pub is : IsRun (g.used s) (sight g e pages) h low high all
   pub filled : HasCells (g.used s) (sight g s pages) (suc h) page → (1 ≤ length all.cells) × AreFilledBelow (g.used s) (sight g e pages) h all
-  pub rows : rows_in (g.used s) (sight g e pages) h all ≡ with_row rowid payload (tree_rows (g.used s) (sight g s pages) (suc h) page)
+  pub rows : rows_in (g.used s) (sight g e pages) h all ≡ edited edit rowid (tree_rows (g.used s) (sight g s pages) (suc h) page)
 
 pub one_more : (links h : ℕ) → links + (3 + h) + 1 ≡ links + (3 + suc h)
 one_more links h = omega arith
@@ -324,18 +331,18 @@ few_pages before after limit size bounded bound few = elim bound [
   | inr within ↦ (let wide = mul-le-mul_left limit bounded.0 in omega (arith, within, wide, bounded.1))
 ]
 
-pub record IsTurn {P : Type 0} (g : Ghosts P) (s m e : P) (pages : Paging) (h low high page : ℕ) (rowid : ℤ) (payload : List ℕ) (children run : Run) : Type 0 where
+pub record IsTurn {P : Type 0} (g : Ghosts P) (s m e : P) (pages : Paging) (h low high page : ℕ) (rowid : ℤ) (edit : Edit) (children run : Run) : Type 0 where
   pub wide : 5 ≤ g.used s
   pub bounded : (512 ≤ g.size s) × (g.limit s * g.size s ≤ 2 ^ 30)
   pub placed : IsPlaceFor g s pages (suc h) low high page rowid
   pub later : page ≢ 1
-  pub grown : IsGrownBelow g s m pages h low high page rowid payload children run
+  pub grown : IsGrownBelow g s m pages h low high page rowid edit children run
 
-laid_is : {P : Type 0} (g : Ghosts P) → HaveLaws g → (s m e : P) (pages : Paging) (h low high page : ℕ) (rowid : ℤ) (payload : List ℕ) (children run : Run) (first : List ℕ)
-    → IsTurn g s m e pages h low high page rowid payload children run → Shifts g m e pages (page ∷ []) first 1
-    → IsLaid g s e pages h low high rowid payload page (grown_in children rowid run)
+laid_is : {P : Type 0} (g : Ghosts P) → HaveLaws g → (s m e : P) (pages : Paging) (h low high page : ℕ) (rowid : ℤ) (edit : Edit) (children run : Run) (first : List ℕ)
+    → IsTurn g s m e pages h low high page rowid edit children run → Shifts g m e pages (page ∷ []) first 1
+    → IsLaid g s e pages h low high rowid edit page (grown_in children rowid run)
     × (pages_in (g.used s) (sight g e pages) h (grown_in children rowid run) ≡ pages_in (g.used s) (sight g m pages) h (grown_in children rowid run))
-laid_is g laws s m e pages h low high page rowid payload children run first turn up =
+laid_is g laws s m e pages h low high page rowid edit children run first turn up =
     let u = g.used s in
     let q = sight g m pages in
     let r = sight g e pages in
@@ -352,37 +359,37 @@ laid_is g laws s m e pages h low high page rowid payload children run first turn
       stays.pages_are,
     )
 
-pub becomes_whole : {P : Type 0} (g : Ghosts P) → HaveLaws g → (s m e : P) (pages : Paging) (h low high page : ℕ) (rowid : ℤ) (payload : List ℕ) (children run : Run)
-    → IsTurn g s m e pages h low high page rowid payload children run → HoldsRun (g.used s) (sight g e pages) page (grown_in children rowid run) → Shifts g m e pages (page ∷ []) (page ∷ []) 1
-    → Becomes g s e pages (suc h) low high page rowid payload (alone page)
-becomes_whole g laws s m e pages h low high page rowid payload children run turn holds shifts =
+pub becomes_whole : {P : Type 0} (g : Ghosts P) → HaveLaws g → (s m e : P) (pages : Paging) (h low high page : ℕ) (rowid : ℤ) (edit : Edit) (children run : Run)
+    → IsTurn g s m e pages h low high page rowid edit children run → HoldsRun (g.used s) (sight g e pages) page (grown_in children rowid run) → Shifts g m e pages (page ∷ []) (page ∷ []) 1
+    → Becomes g s e pages (suc h) low high page rowid edit (alone page)
+becomes_whole g laws s m e pages h low high page rowid edit children run turn holds shifts =
     let u = g.used s in
     let r = sight g e pages in
     let all = grown_in children rowid run in
-    let found = laid_is g laws s m e pages h low high page rowid payload children run (page ∷ []) turn shifts in
+    let found = laid_is g laws s m e pages h low high page rowid edit children run (page ∷ []) turn shifts in
     let laid = found.0 in
     let holder : IsHolder u r h low high page all = laws.holder u r h low high page all turn.wide holds laid.is in
     record {
-      absent = turn.grown.absent;
+      before = turn.grown.before;
       is = holder.tree;
       last = (let from = turn.placed.from in let to = turn.placed.to in omega (arith, from, to));
       first = refl;
       filled = λ filled. let below = laid.filled filled in holder.filled (inr below.0) below.1;
       below = λ filled some few. absurd (omega (arith, some));
       rows = holder.rows ∙ laid.rows;
-      shifts = laid_shifts g laws s m e pages h page (length payload) _ (page ∷ []) (pages_in u (sight g m pages) h all) (all_pages u r (suc h) page) turn.grown.shifts shifts
+      shifts = laid_shifts g laws s m e pages h page (size_of edit) _ (page ∷ []) (pages_in u (sight g m pages) h all) (all_pages u r (suc h) page) turn.grown.shifts shifts
           (λ n. sym (ap (times n) (holder.pages_are ∙ ap (λ (ps : List ℕ). page ∷ ps) found.1)));
     }
 
-pub becomes_halves : {P : Type 0} (g : Ghosts P) → HaveLaws g → (s m e : P) (pages : Paging) (h low high page : ℕ) (rowid : ℤ) (payload : List ℕ) (children run new : Run)
-    → IsTurn g s m e pages h low high page rowid payload children run → g.used m ≡ g.used s → (x : LaysHalves g m e pages page (grown_in children rowid run) new)
-    → Becomes g s e pages (suc h) low high page rowid payload (pair x.cut page x.next)
-becomes_halves g laws s m e pages h low high page rowid payload children run new turn used x =
+pub becomes_halves : {P : Type 0} (g : Ghosts P) → HaveLaws g → (s m e : P) (pages : Paging) (h low high page : ℕ) (rowid : ℤ) (edit : Edit) (children run new : Run)
+    → IsTurn g s m e pages h low high page rowid edit children run → g.used m ≡ g.used s → (x : LaysHalves g m e pages page (grown_in children rowid run) new)
+    → Becomes g s e pages (suc h) low high page rowid edit (pair x.cut page x.next)
+becomes_halves g laws s m e pages h low high page rowid edit children run new turn used x =
     let u = g.used s in
     let q = sight g m pages in
     let r = sight g e pages in
     let all = grown_in children rowid run in
-    let found = laid_is g laws s m e pages h low high page rowid payload children run (page ∷ x.next ∷ []) turn x.shifts in
+    let found = laid_is g laws s m e pages h low high page rowid edit children run (page ∷ x.next ∷ []) turn x.shifts in
     let laid = found.0 in
     let two : ArePair u r h low high x.cut page x.next = laws.halves u r h low high x.cut page x.next turn.wide (record {
       run = subst (IsRun u r h low high) (sym x.whole_is) laid.is;
@@ -391,7 +398,7 @@ becomes_halves g laws s m e pages h low high page rowid payload children run new
     }) in
     let held = turn.grown.shifts.held turn.placed.held in
     record {
-      absent = turn.grown.absent;
+      before = turn.grown.before;
       is = two.is;
       last = two.last x.some.1;
       first = refl;
@@ -406,18 +413,18 @@ becomes_halves g laws s m e pages h low high page rowid payload children run new
           }) in
           omega (arith, low_);
       rows = two.rows ∙ ap (rows_in u r h) x.whole_is ∙ laid.rows;
-      shifts = laid_shifts g laws s m e pages h page (length payload) _ (page ∷ x.next ∷ []) (pages_in u q h all) (pages_in u r (suc h) (pair x.cut page x.next)) turn.grown.shifts x.shifts
+      shifts = laid_shifts g laws s m e pages h page (size_of edit) _ (page ∷ x.next ∷ []) (pages_in u q h all) (pages_in u r (suc h) (pair x.cut page x.next)) turn.grown.shifts x.shifts
           (λ n. sym (two.pages_are n ∙ ap (λ (ps : List ℕ). times n (page ∷ x.next ∷ ps)) (ap (pages_in u r h) x.whole_is ∙ found.1)));
     }
 
-pub becomes_laid : {P : Type 0} (g : Ghosts P) → HaveLaws g → (s m e : P) (pages : Paging) (h low high page : ℕ) (rowid : ℤ) (payload : List ℕ) (children run new : Run)
-    → IsTurn g s m e pages h low high page rowid payload children run → LaysRun g m e pages page (grown_in children rowid run) new
-    → Becomes g s e pages (suc h) low high page rowid payload new
-becomes_laid g laws s m e pages h low high page rowid payload children run new turn lays =
+pub becomes_laid : {P : Type 0} (g : Ghosts P) → HaveLaws g → (s m e : P) (pages : Paging) (h low high page : ℕ) (rowid : ℤ) (edit : Edit) (children run new : Run)
+    → IsTurn g s m e pages h low high page rowid edit children run → LaysRun g m e pages page (grown_in children rowid run) new
+    → Becomes g s e pages (suc h) low high page rowid edit new
+becomes_laid g laws s m e pages h low high page rowid edit children run new turn lays =
     let used : g.used m ≡ g.used s = turn.grown.shifts.spares.sizes.used in
     ⊎_elim
-    (λ (x : LaysWhole g m e pages page (grown_in children rowid run) new). subst (Becomes g s e pages (suc h) low high page rowid payload) (sym x.run_is)
-    (becomes_whole g laws s m e pages h low high page rowid payload children run turn (subst (λ (v : ℕ). HoldsRun v (sight g e pages) page (grown_in children rowid run)) used x.holds) x.shifts))
-    (λ (x : LaysHalves g m e pages page (grown_in children rowid run) new). subst (Becomes g s e pages (suc h) low high page rowid payload) (sym x.run_is)
-    (becomes_halves g laws s m e pages h low high page rowid payload children run new turn used x))
+    (λ (x : LaysWhole g m e pages page (grown_in children rowid run) new). subst (Becomes g s e pages (suc h) low high page rowid edit) (sym x.run_is)
+    (becomes_whole g laws s m e pages h low high page rowid edit children run turn (subst (λ (v : ℕ). HoldsRun v (sight g e pages) page (grown_in children rowid run)) used x.holds) x.shifts))
+    (λ (x : LaysHalves g m e pages page (grown_in children rowid run) new). subst (Becomes g s e pages (suc h) low high page rowid edit) (sym x.run_is)
+    (becomes_halves g laws s m e pages h low high page rowid edit children run new turn used x))
     lays

@@ -24,6 +24,7 @@ use Rattle.spe_cut.specs.Rows.{CellAddsRow, KeptRowsStay, RowAdded, RowsStay, wi
 use Rattle.spe_cut.specs.Run.{AreFilledBelow, AreKept, IsOpen, IsRun, Run, pages_in, rows_in}
 use Rattle.spe_insert.specs.Below.{Becomes, IsPage, IsPlaceFor, LacksRow, first_child, pages_for}
 use Rattle.spe_insert.specs.Cell.{HasPayload}
+use Rattle.spe_insert.specs.Edit.{puts}
 use Rattle.spe_insert.specs.Leaf.{LaysLeaf}
 use Rattle.spe_insert.specs.LeafStep.{IsGap, IsLeafOf, leads_with}
 use Rattle.spe_insert.proofs.CellLemmas.{shifts_more}
@@ -256,12 +257,12 @@ tree_gets g laws x new run laid =
     ∙ ap (with_row x.rowid x.payload) ((rows_stay g laws x).are ∙ sym (ap (rows_of u (was g x)) (ap cells_in x.node)))
 
 pub leaf_becomes : {P : Type 0} (g : Ghosts P) → Laws g → (x : Step g) (new : P) (run : Run) → Laid g x new run → LacksRow g x.old x.pages 0 x.page x.rowid
-    → Becomes g x.old new x.pages 0 x.low x.high x.page x.rowid x.payload run
+    → Becomes g x.old new x.pages 0 x.low x.high x.page x.rowid (puts x.payload) run
 leaf_becomes g laws x new run laid lacks =
     let parts = leaves_are g laws x new run laid in
     let back = sym laid.leaf.lays.run_is in
     record {
-      absent = lacks;
+      before = lacks;
       is = subst (IsRun (g.used x.old) (becomes g x new) 0 x.low x.high) back parts.is;
       last = subst (IsOpen x.low x.high) back (parts.last laid.leaf.lays.ends);
       first = laid.first;
@@ -352,7 +353,7 @@ held_so g laws x What when = when x.has.shifts.ready (page_held g laws x) (other
 
 pub step_puts : {P : Type 0} (g : Ghosts P) → Laws g → (x : Step g) (new : P) (all : List Cell) (run : Run) → all ≡ x.before ++ (x.cell ∷ x.after)
     → WhenHeld g x (LaysLeaf g x.mid new x.pages x.page all run) → first_child run ≡ x.page → LacksRow g x.old x.pages 0 x.page x.rowid
-    → Becomes g x.old new x.pages 0 x.low x.high x.page x.rowid x.payload run
+    → Becomes g x.old new x.pages 0 x.low x.high x.page x.rowid (puts x.payload) run
 step_puts g laws x new all run same when first lacks =
     leaf_becomes g laws x new run (record {
       leaf = subst (λ (cs : List Cell). LaysLeaf g x.mid new x.pages x.page cs run) same (held_so g laws x (LaysLeaf g x.mid new x.pages x.page all run) when);

@@ -18,12 +18,12 @@ use Rattle.spe_frame.specs.Times.{AreSame, HoldsOf, Lacks, times}
 use Rattle.spe_frame.proofs.TimesLemmas.{each_from_holds, each_left, here, there, times-append}
 use Rattle.spe_frame.proofs.TreeLemmas.{IsKept, lower_pages}
 use Rattle.spe_cut.specs.Child.{IsChild, RunGrows}
-use Rattle.spe_cut.specs.Rows.{with_row}
 use Rattle.spe_cut.specs.Run.{AreFilledBelow, HoldsRun, IsHolder, IsRun, Place, Run, alone, high_at, low_at, pages_beside, pages_in, rows_in, with_child, with_run}
 use Rattle.spe_cut.proofs.ChildLemmas.{child_becomes_run, child_of_run}
 use Rattle.spe_cut.proofs.HolderLemmas.{holder_of_run}
 use Rattle.spe_insert.specs.Below.{Becomes, WhereTree, first_of, pages_for}
-use Rattle.spe_insert.specs.Insert.{Added, IsOwn, marked_root, most_pages}
+use Rattle.spe_insert.specs.Edit.{Edit, edited, size_of}
+use Rattle.spe_insert.specs.Insert.{Edited, IsOwn, marked_root, most_pages}
 use Rattle.spe_insert.specs.Place.{place_at}
 use Rattle.spe_insert.specs.declared.run.Run.{Run as Held}
 use Rattle.spe_insert.specs.Run.{run_of}
@@ -61,12 +61,12 @@ abbrev rest_of_run : (usable : ℕ) → Paging → (height root : ℕ) → Run �
 rest_of_run usable pages height root run = lower_pages usable pages height root ++ pages_beside usable pages height (place_at 0 run)
 
 -- what stood before a root was raised
-pub record IsLow {P : Type 0} (g : Ghosts P) (s m : P) (pages : Paging) (root height : ℕ) (rowid : ℤ) (payload : List ℕ) (run : Run) : Type 0 where
+pub record IsLow {P : Type 0} (g : Ghosts P) (s m : P) (pages : Paging) (root height : ℕ) (rowid : ℤ) (edit : Edit) (run : Run) : Type 0 where
   pub wide : 480 ≤ g.used s
   pub own : IsOwn g s pages root (tree_at height root)
-  pub becomes : Becomes g s m pages height 0 most root rowid payload run
+  pub becomes : Becomes g s m pages height 0 most root rowid edit run
 
-module _ {P : Type 0} (g : Ghosts P) (s m : P) (pages : Paging) (root height : ℕ) (rowid : ℤ) (payload : List ℕ) (run : Run) (low : IsLow g s m pages root height rowid payload run) where
+module _ {P : Type 0} (g : Ghosts P) (s m : P) (pages : Paging) (root height : ℕ) (rowid : ℤ) (edit : Edit) (run : Run) (low : IsLow g s m pages root height rowid edit run) where
   abbrev u : ℕ
   u = g.used s
 
@@ -180,12 +180,12 @@ module _ {P : Type 0} (g : Ghosts P) (s m : P) (pages : Paging) (root height : �
         holder.filled (inr (let long = led_long run next in omega (arith, long, some)))
         (subst (AreFilledBelow u after height) swapped (grows.filled were (moved_cells u before after height root next root_later moved (child.filled were))))
 
-    pub added_raised : ShiftsBoth g → ShiftsBeside g → ShiftsAlike g → SparesMore g → Added g s e pages root (tree_at height root) rowid payload
-    added_raised both beside alike more =
+    pub edited_raised : ShiftsBoth g → ShiftsBeside g → ShiftsAlike g → SparesMore g → Edited g s e pages root (tree_at height root) rowid edit
+    edited_raised both beside alike more =
         let xs = all_pages u (sight g s pages) height root in
         let ys = pages_in u before height run in
         let zs = all_pages u after (suc height) root in
-        let count = pages_for u height (length payload) in
+        let count = pages_for u height (size_of edit) in
         let total : Shifts g s e pages xs zs (count + 1) =
         both s m e pages xs ys zs count 1 low.becomes.shifts
         (alike m e pages (root ∷ rest) (root ∷ next ∷ rest) ys zs 1 (λ n. sym (pages_are n)) all_are (beside m e pages (root ∷ []) (root ∷ next ∷ []) rest 1 raised.shifts)) in
@@ -193,26 +193,26 @@ module _ {P : Type 0} (g : Ghosts P) (s m : P) (pages : Paging) (root height : �
         let low_ = own_low g s pages root height low.own in
         let deep = low.becomes.below low.own.grown.1 some low.own.few in
         record {
-          absent = low.becomes.absent;
+          before = low.becomes.before;
           other = tree_at (suc height) root;
           sort = refl;
           grown = subst (λ (k : ℕ). IsGrown k after (marked_root root) (tree_at (suc height) root)) (sym used_e)
               (tree_grown u after (suc height) root low.wide low.own.grown.0.0 (omega (arith, deep)) holder.tree filled);
-          rows = subst (λ (k : ℕ). tree_rows k after (suc height) root ≡ with_row rowid payload (tree_rows u (sight g s pages) height root)) (sym used_e)
+          rows = subst (λ (k : ℕ). tree_rows k after (suc height) root ≡ edited edit rowid (tree_rows u (sight g s pages) height root)) (sym used_e)
               (holder.rows ∙ rows_are ∙ low.becomes.rows);
-          shifts = subst (λ (k : ℕ). Shifts g s e pages xs (all_pages k after (suc height) root) (most_pages u (length payload))) (sym used_e)
-              (shifts_more g more s e pages xs zs (count + 1) (most_pages u (length payload)) (omega (arith, low_)) total);
+          shifts = subst (λ (k : ℕ). Shifts g s e pages xs (all_pages k after (suc height) root) (most_pages u (size_of edit))) (sym used_e)
+              (shifts_more g more s e pages xs zs (count + 1) (most_pages u (size_of edit)) (omega (arith, low_)) total);
         }
 
   -- a root that could not be raised
   pub raise_spares : SparesBoth g → SparesBeside g → SparesAlike g → SparesMore g → (e : P) → Spares g m e pages (root ∷ []) 1
-      → Spares g s e pages (all_pages u (sight g s pages) height root) (most_pages u (length payload))
+      → Spares g s e pages (all_pages u (sight g s pages) height root) (most_pages u (size_of edit))
   raise_spares both beside alike_ more e fails =
       let xs = all_pages u (sight g s pages) height root in
       let ys = pages_in u before height run in
-      let count = pages_for u height (length payload) in
+      let count = pages_for u height (size_of edit) in
       let low_ = own_low g s pages root height low.own in
-      more s e pages xs (count + 1) (most_pages u (length payload)) (omega (arith, low_))
+      more s e pages xs (count + 1) (most_pages u (size_of edit)) (omega (arith, low_))
       (both s m e pages xs ys count 1 low.becomes.shifts (alike_ m e pages (root ∷ rest) ys 1 (λ n. sym (pages_are n)) (beside m e pages (root ∷ []) rest 1 fails)))
 
   -- the root alone is held among the pages of the run
@@ -232,16 +232,16 @@ for_tree g s pages root tree Q own make =
     subst Q (sym same) (make tree.height (subst (IsOwn g s pages root) same own))
 
 -- a call below the root that failed
-pub low_spares : {P : Type 0} (g : Ghosts P) → SparesMore g → (s m : P) (pages : Paging) (root height : ℕ) (payload : List ℕ) → IsOwn g s pages root (tree_at height root)
-    → Spares g s m pages (all_pages (g.used s) (sight g s pages) height root) (pages_for (g.used s) height (length payload))
-    → Spares g s m pages (all_pages (g.used s) (sight g s pages) height root) (most_pages (g.used s) (length payload))
-low_spares g more s m pages root height payload own fails =
+pub low_spares : {P : Type 0} (g : Ghosts P) → SparesMore g → (s m : P) (pages : Paging) (root height : ℕ) (edit : Edit) → IsOwn g s pages root (tree_at height root)
+    → Spares g s m pages (all_pages (g.used s) (sight g s pages) height root) (pages_for (g.used s) height (size_of edit))
+    → Spares g s m pages (all_pages (g.used s) (sight g s pages) height root) (most_pages (g.used s) (size_of edit))
+low_spares g more s m pages root height edit own fails =
     let low_ = own_low g s pages root height own in
-    more s m pages (all_pages (g.used s) (sight g s pages) height root) (pages_for (g.used s) height (length payload)) (most_pages (g.used s) (length payload)) (omega (arith, low_)) fails
+    more s m pages (all_pages (g.used s) (sight g s pages) height root) (pages_for (g.used s) height (size_of edit)) (most_pages (g.used s) (size_of edit)) (omega (arith, low_)) fails
 
 -- what a run has that a row was put into
-abbrev pub PutWhere : {P : Type 0} (g : Ghosts P) (s m : P) (root : ℕ) (rowid : ℤ) (payload : List ℕ) → Held → Type 0
-PutWhere g s m root rowid payload run = WhereTree g s m 20 root rowid (λ pages height low high. Becomes g s m pages height low high root rowid payload (run_of run))
+abbrev pub PutWhere : {P : Type 0} (g : Ghosts P) (s m : P) (root : ℕ) (rowid : ℤ) (edit : Edit) → Held → Type 0
+PutWhere g s m root rowid edit run = WhereTree g s m 20 root rowid (λ pages height low high. Becomes g s m pages height low high root rowid edit (run_of run))
 
 pub some_of : {A : Type 0} (o : Option A) (x : A) (What : A → Type 0) → o ≡ Some x → IfSome o What → What x
 some_of {A = A} o x What is all = subst (λ (p : Option A). IfSome p What) is all

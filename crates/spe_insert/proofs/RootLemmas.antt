@@ -17,11 +17,11 @@ use Rattle.spe_frame.specs.Laws.{ShiftsAlike, ShiftsBeside, ShiftsBoth, SparesMo
 use Rattle.spe_frame.specs.Times.{AreSingle}
 use Rattle.spe_frame.proofs.TimesLemmas.{here}
 use Rattle.spe_cut.specs.Parts.{run_cells}
-use Rattle.spe_cut.specs.Rows.{with_row}
 use Rattle.spe_cut.specs.Run.{Run, alone}
 use Rattle.spe_cut.proofs.SizeLemmas.{interior_size}
 use Rattle.spe_insert.specs.Below.{Becomes, IsPlaceFor, first_of, pages_for}
-use Rattle.spe_insert.specs.Insert.{Added, IsOwn, marked_root, most_pages}
+use Rattle.spe_insert.specs.Edit.{Edit, changes, edited, puts, size_of}
+use Rattle.spe_insert.specs.Insert.{Added, Edited, IsOwn, Replaced, marked_root, most_pages}
 use Rattle.spe_insert.specs.Node.{LaysNode}
 use Rattle.spe_insert.specs.Root.{Raises, led_by}
 use Rattle.spe_insert.proofs.CellLemmas.{shifts_more}
@@ -139,24 +139,24 @@ alone_is [] right page none first = ap alone first
 alone_is (c ∷ cs) right page none first = absurd cc
 
 -- the tree has the row without a level more
-pub added_alone : {P : Type 0} (g : Ghosts P) → SparesMore g → (s m : P) (pages : Paging) (root height : ℕ) (rowid : ℤ) (payload : List ℕ) (run : Run) → 480 ≤ g.used s
-    → IsOwn g s pages root (tree_at height root) → Becomes g s m pages height 0 18446744073709551616 root rowid payload run → run.cells ≡ []
-    → Added g s m pages root (tree_at height root) rowid payload
-added_alone g more s m pages root height rowid payload run wide own becomes none =
+pub edited_alone : {P : Type 0} (g : Ghosts P) → SparesMore g → (s m : P) (pages : Paging) (root height : ℕ) (rowid : ℤ) (edit : Edit) (run : Run) → 480 ≤ g.used s
+    → IsOwn g s pages root (tree_at height root) → Becomes g s m pages height 0 18446744073709551616 root rowid edit run → run.cells ≡ []
+    → Edited g s m pages root (tree_at height root) rowid edit
+edited_alone g more s m pages root height rowid edit run wide own becomes none =
     let is : run ≡ alone root = alone_is run.cells run.right root none becomes.first in
-    let b : Becomes g s m pages height 0 18446744073709551616 root rowid payload (alone root) = subst (Becomes g s m pages height 0 18446744073709551616 root rowid payload) is becomes in
+    let b : Becomes g s m pages height 0 18446744073709551616 root rowid edit (alone root) = subst (Becomes g s m pages height 0 18446744073709551616 root rowid edit) is becomes in
     let used : g.used m ≡ g.used s = b.shifts.spares.sizes.used in
     let low = own_low g s pages root height own in
     record {
-      absent = b.absent;
+      before = b.before;
       other = tree_at height root;
       sort = refl;
       grown = subst (λ (u : ℕ). IsGrown u (sight g m pages) (marked_root root) (tree_at height root)) (sym used)
           (tree_grown (g.used s) (sight g m pages) height root wide own.grown.0.0 low b.is (b.filled own.grown.1));
-      rows = subst (λ (u : ℕ). tree_rows u (sight g m pages) height root ≡ with_row rowid payload (tree_rows (g.used s) (sight g s pages) height root)) (sym used) b.rows;
-      shifts = subst (λ (u : ℕ). Shifts g s m pages (all_pages (g.used s) (sight g s pages) height root) (all_pages u (sight g m pages) height root) (most_pages (g.used s) (length payload))) (sym used)
+      rows = subst (λ (u : ℕ). tree_rows u (sight g m pages) height root ≡ edited edit rowid (tree_rows (g.used s) (sight g s pages) height root)) (sym used) b.rows;
+      shifts = subst (λ (u : ℕ). Shifts g s m pages (all_pages (g.used s) (sight g s pages) height root) (all_pages u (sight g m pages) height root) (most_pages (g.used s) (size_of edit))) (sym used)
           (shifts_more g more s m pages (all_pages (g.used s) (sight g s pages) height root) (all_pages (g.used s) (sight g m pages) height root)
-          (pages_for (g.used s) height (length payload)) (most_pages (g.used s) (length payload)) (omega (arith, low)) b.shifts);
+          (pages_for (g.used s) height (size_of edit)) (most_pages (g.used s) (size_of edit)) (omega (arith, low)) b.shifts);
     }
 
 need_few : (usable : ℕ) (cells : List Cell) → AreWritable TableInterior usable cells → 2 * length cells + cells_length TableInterior cells ≤ 15 * length cells
@@ -173,3 +173,26 @@ led_fits usable run next wide are few =
     let long = led_long run next in
     let need = need_few usable (led_by run next).cells (led_writable usable run next are) in
     le-leb _ usable (omega (arith, wide, long, need, few))
+
+-- a tree whose rows were edited got a row, or another payload in one
+pub added_from : {P : Type 0} (g : Ghosts P) (s e : P) (pages : Paging) (root : ℕ) (tree : Tree) (rowid : ℤ) (payload : List ℕ) → Edited g s e pages root tree rowid (puts payload)
+    → Added g s e pages root tree rowid payload
+added_from g s e pages root tree rowid payload is = record {
+  absent = is.before;
+  other = is.other;
+  sort = is.sort;
+  grown = is.grown;
+  rows = is.rows;
+  shifts = is.shifts;
+}
+
+pub replaced_from : {P : Type 0} (g : Ghosts P) (s e : P) (pages : Paging) (root : ℕ) (tree : Tree) (rowid : ℤ) (payload : List ℕ) → Edited g s e pages root tree rowid (changes payload)
+    → Replaced g s e pages root tree rowid payload
+replaced_from g s e pages root tree rowid payload is = record {
+  present = is.before;
+  other = is.other;
+  sort = is.sort;
+  grown = is.grown;
+  rows = is.rows;
+  shifts = is.shifts;
+}

@@ -13,8 +13,8 @@ use Rattle.spe_space.specs.Calls.{sight}
 use Rattle.spe_space.specs.Front.{number_in}
 use Rattle.spe_frame.specs.Held.{AreHeld, IsReady, Shifts}
 use Rattle.spe_frame.specs.Times.{Lacks}
-use Rattle.spe_cut.specs.Rows.{with_row}
 use Rattle.spe_cut.specs.Run.{AreFilledBelow, IsOpen, IsRun, Run, pages_in, rows_in}
+use Rattle.spe_insert.specs.Edit.{Edit, IsBefore, edited, size_of}
 
 -- how many pages such a call may hand out: a chain for the payload, two more leaves, and a page a level
 abbrev pub pages_for : (usable height size : ℕ) → ℕ
@@ -57,19 +57,19 @@ WhereTree g old new levels page rowid What =
 abbrev pub LacksRow : {P : Type 0} (g : Ghosts P) (s : P) → Paging → (height page : ℕ) → ℤ → Type 0
 LacksRow g s pages height page rowid = row_at rowid (tree_rows (g.used s) (sight g s pages) height page) ≡ None
 
--- The tree has become a run of trees as high, which begins with its page: they have its rows and the new one. A run of
+-- The tree has become a run of trees as high, which begins with its page: they have its rows as they are edited. A run of
 -- several trees is low enough to stand below a root of its own.
-pub record Becomes {P : Type 0} (g : Ghosts P) (old new : P) (pages : Paging) (height low high page : ℕ) (rowid : ℤ) (payload : List ℕ) (run : Run) : Type 0 where
-  pub absent : LacksRow g old pages height page rowid
+pub record Becomes {P : Type 0} (g : Ghosts P) (old new : P) (pages : Paging) (height low high page : ℕ) (rowid : ℤ) (edit : Edit) (run : Run) : Type 0 where
+  pub before : IsBefore edit (row_at rowid (tree_rows (g.used old) (sight g old pages) height page))
   pub is : IsRun (g.used old) (sight g new pages) height low high run
   pub last : IsOpen low high run
   pub first : first_child run ≡ page
   pub filled : HasCells (g.used old) (sight g old pages) height page → AreFilledBelow (g.used old) (sight g new pages) height run
   pub below : HasCells (g.used old) (sight g old pages) height page → 1 ≤ length run.cells
       → number_in (sight g old pages) * 512 ≤ 2 ^ 30 → height + 1 < 20
-  pub rows : rows_in (g.used old) (sight g new pages) height run ≡ with_row rowid payload (tree_rows (g.used old) (sight g old pages) height page)
+  pub rows : rows_in (g.used old) (sight g new pages) height run ≡ edited edit rowid (tree_rows (g.used old) (sight g old pages) height page)
   pub shifts : Shifts g old new pages (all_pages (g.used old) (sight g old pages) height page)
-      (pages_in (g.used old) (sight g new pages) height run) (pages_for (g.used old) height (length payload))
+      (pages_in (g.used old) (sight g new pages) height run) (pages_for (g.used old) height (size_of edit))
 
 -- The tree has a row with the rowid, and nothing was changed.
 pub record IsThere {P : Type 0} (g : Ghosts P) (old new : P) (pages : Paging) (height page : ℕ) (rowid : ℤ) : Type 0 where

@@ -1,5 +1,5 @@
 -- A row that is put into the tree of a table, at a bound `P: Pages`.
-use Rattle.std.specs.Prelude.{◌≡◌, ℕ, ℤ, ◌+◌, ◌*◌, ◌^◌, ◌≤◌, List, length, true, Some}
+use Rattle.std.specs.Prelude.{◌≡◌, ℕ, ℤ, ◌+◌, ◌*◌, ◌^◌, ◌≤◌, List, length, is_some, true, Some}
 use Rattle.spe_model.specs.Chain.{links}
 use Rattle.spe_model.specs.Paging.{Agrees, Paging}
 use Rattle.spe_model.specs.Served.{IsGrown, Root}
@@ -10,8 +10,10 @@ use Rattle.spe_space.specs.Calls.{sight}
 use Rattle.spe_space.specs.Front.{number_in}
 use Rattle.spe_frame.specs.Held.{AreHeld, IsReady, Shifts}
 use Rattle.spe_frame.specs.Times.{Lacks}
+use Rattle.spe_cut.specs.Changed.{with_payload}
 use Rattle.spe_cut.specs.Rows.{with_row}
 use Rattle.spe_insert.specs.Below.{LacksRow}
+use Rattle.spe_insert.specs.Edit.{Edit, IsBefore, edited, size_of}
 
 -- a root whose tree has a cell on each interior page
 abbrev pub marked_root : (page : ℕ) → Root
@@ -52,3 +54,31 @@ pub record Present {P : Type 0} (g : Ghosts P) (old new : P) (pages : Paging) (t
   pub row : row_at rowid (tree_rows (g.used old) (sight g old pages) tree.height tree.root) ≡ Some payload
   pub shifts : Shifts g old new pages (pages_of_tree (g.used old) (sight g old pages) tree)
       (pages_of_tree (g.used old) (sight g old pages) tree) 0
+
+-- the root has a tree of the same rowids, in which the row that was there has another payload
+pub record Replaced {P : Type 0} (g : Ghosts P) (old new : P) (pages : Paging) (root : ℕ) (tree : Tree) (rowid : ℤ) (payload : List ℕ) : Type 0 where
+  pub present : is_some (row_at rowid (tree_rows (g.used old) (sight g old pages) tree.height tree.root)) ≡ true
+  pub other : Tree
+  pub sort : other.table ≡ true
+  pub grown : IsGrown (g.used new) (sight g new pages) (marked_root root) other
+  pub rows : tree_rows (g.used new) (sight g new pages) other.height other.root
+      ≡ with_payload rowid payload (tree_rows (g.used old) (sight g old pages) tree.height tree.root)
+  pub shifts : Shifts g old new pages (pages_of_tree (g.used old) (sight g old pages) tree)
+      (pages_of_tree (g.used new) (sight g new pages) other) (most_pages (g.used old) (length payload))
+
+-- the tree has no row with the rowid, and nothing was changed
+pub record Unmatched {P : Type 0} (g : Ghosts P) (old new : P) (pages : Paging) (tree : Tree) (rowid : ℤ) : Type 0 where
+  pub absent : LacksRow g old pages tree.height tree.root rowid
+  pub shifts : Shifts g old new pages (pages_of_tree (g.used old) (sight g old pages) tree)
+      (pages_of_tree (g.used old) (sight g old pages) tree) 0
+
+-- the root has a tree of these rows as they are edited
+pub record Edited {P : Type 0} (g : Ghosts P) (old new : P) (pages : Paging) (root : ℕ) (tree : Tree) (rowid : ℤ) (edit : Edit) : Type 0 where
+  pub before : IsBefore edit (row_at rowid (tree_rows (g.used old) (sight g old pages) tree.height tree.root))
+  pub other : Tree
+  pub sort : other.table ≡ true
+  pub grown : IsGrown (g.used new) (sight g new pages) (marked_root root) other
+  pub rows : tree_rows (g.used new) (sight g new pages) other.height other.root
+      ≡ edited edit rowid (tree_rows (g.used old) (sight g old pages) tree.height tree.root)
+  pub shifts : Shifts g old new pages (pages_of_tree (g.used old) (sight g old pages) tree)
+      (pages_of_tree (g.used new) (sight g new pages) other) (most_pages (g.used old) (size_of edit))

@@ -1,6 +1,7 @@
 -- The laws that the way down a tree and back stands on, at a bound `P: Pages`.
 use Rattle.spe_space.specs.declared.pages.Pages.{Ghosts}
 use Rattle.spe_frame.specs.Laws.{HeldApart, ShiftsAlike, ShiftsBeside, ShiftsBoth, ShiftsNone, SparesAlike, SparesBeside, SparesBoth, SparesMore}
+use Rattle.spe_cut.specs.Changed.{RowIsChanged}
 use Rattle.spe_cut.specs.Child.{AboveCells, ChildBecomesRun, ChildOfRun, RowOfChild}
 use Rattle.spe_cut.specs.Depth.{RootStaysLow}
 use Rattle.spe_cut.specs.Rows.{RowIsPut, RunAscends}
@@ -27,4 +28,5 @@ pub record HaveLaws {P : Type 0} (g : Ghosts P) : Type 0 where
   pub grows : ChildBecomesRun
   pub halves : HalvesArePair
   pub put : RowIsPut
+  pub changed : RowIsChanged
   pub low : RootStaysLow

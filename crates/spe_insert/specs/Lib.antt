@@ -4,9 +4,11 @@ pub mod Run
 pub mod Leaf
 pub mod Interior
 pub mod Place
+pub mod Edit
 pub mod Below
 pub mod LeafStep
 pub mod Step
 pub mod Laws
 pub mod Insert
+pub mod Replace
 pub mod Root

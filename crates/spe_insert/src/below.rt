@@ -6,6 +6,7 @@ ghost use Rattle.spe_space.specs.Calls.{Keeps, Reads, RefusesTree, sight};
 ghost use Rattle.spe_frame.specs.Held.{Spares};
 ghost use Rattle.spe_write.specs.Chain.{IsLikelyOfTree};
 ghost use Rattle.spe_insert.specs.Below.{Becomes, IsShort, IsThere, WhereTree, pages_for};
+ghost use Rattle.spe_insert.specs.Edit.{puts};
 ghost use Rattle.spe_insert.specs.Run.{run_of};
 
 use crate::down::look;
@@ -37,7 +38,7 @@ pub(crate) fn put_below<S: PageSpace>(
     requires refusal { S.Pages.refusal space.old ≡ None }
     requires most { length payload.now ≤ 2147483647 }
     ensures put { IfOk result (λ put. IfSome put (λ run. WhereTree S.Pages space.old space.new levels page rowid (λ pages height low high.
-        Becomes S.Pages space.old space.new pages height low high page rowid payload.now (run_of run)))) }
+        Becomes S.Pages space.old space.new pages height low high page rowid (puts payload.now) (run_of run)))) }
     ensures short { IfOk result (λ put. IfSome put (λ run. IsShort (S.Pages.used space.old) (run_of run))) }
     ensures there { IfOk result (λ put. put ≡ None → WhereTree S.Pages space.old space.new levels page rowid (λ pages height low high.
         IsThere S.Pages space.old space.new pages height page rowid)) }

@@ -2,7 +2,7 @@
 
 ghost use Rattle.spe_insert.specs.Laws.{HaveLaws};
 
-use spe_cut::{child_law, depth_law, root_law, row_law, split_law};
+use spe_cut::{change_law, child_law, depth_law, root_law, row_law, split_law};
 use spe_frame::shifts_law;
 use spe_space::Pages;
 
@@ -17,5 +17,6 @@ pub fn below_law<S: Pages>(space: &S)
     child_law();
     split_law();
     row_law();
+    change_law();
     depth_law();
 }

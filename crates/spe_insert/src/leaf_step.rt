@@ -15,6 +15,7 @@ ghost use Rattle.spe_write.specs.Chain.{IsLikelyOfTree};
 ghost use Rattle.spe_insert.specs.Below.{Becomes, IsPage, IsShort, LacksRow, WhereTree, pages_for};
 ghost use Rattle.spe_insert.specs.LeafStep.{FailsLeaf, IsAbove, IsFrom, IsGap, IsLeafOf, leads_with};
 ghost use Rattle.spe_insert.specs.Place.{place_for};
+ghost use Rattle.spe_insert.specs.Edit.{puts};
 ghost use Rattle.spe_insert.specs.Run.{run_of};
 
 use crate::cell::write_cell;
@@ -31,12 +32,7 @@ use std::alloc::{AllocError, Global};
 
 /// The cells of a leaf other than page 1, from a copy of it. Corrupt names the page, where its bytes are no
 /// legal leaf of a table. ("B-tree Pages" in SQLite's Database File Format.)
-pub fn leaf_in(
-    alloc: Global,
-    bytes: &[u8],
-    usable: usize,
-    page: u32,
-) -> Result<Cells, TreeFault>
+pub fn leaf_in(alloc: Global, bytes: &[u8], usable: usize, page: u32) -> Result<Cells, TreeFault>
     requires low { 480 ≤ usable }
     requires high { usable ≤ 65536 }
     requires inside { usable ≤ length bytes.now }
@@ -115,7 +111,7 @@ fn put_among<S: PageSpace>(
     requires most { length payload.now ≤ 2147483647 }
     ensures put { IfOk result (λ run. WhereTree S.Pages space.old space.new 1 page rowid (λ pages height low high.
         IsPage S.Pages space.old pages page buf.old → LacksRow S.Pages space.old pages height page rowid
-        → Becomes S.Pages space.old space.new pages height low high page rowid payload.now (run_of run))) }
+        → Becomes S.Pages space.old space.new pages height low high page rowid (puts payload.now) (run_of run))) }
     ensures short { IfOk result (λ run. IsShort (S.Pages.used space.old) (run_of run)) }
     ensures spares { WhereTree S.Pages space.old space.new 1 page rowid (λ pages height low high.
         IsPage S.Pages space.old pages page buf.old → LacksRow S.Pages space.old pages height page rowid
@@ -169,7 +165,7 @@ pub(crate) fn put_in_leaf<S: PageSpace>(
     requires most { length payload.now ≤ 2147483647 }
     ensures put { IfOk result (λ run. WhereTree S.Pages space.old space.new 1 page rowid (λ pages height low high.
         IsPage S.Pages space.old pages page buf.old → LacksRow S.Pages space.old pages height page rowid
-        → Becomes S.Pages space.old space.new pages height low high page rowid payload.now (run_of run))) }
+        → Becomes S.Pages space.old space.new pages height low high page rowid (puts payload.now) (run_of run))) }
     ensures short { IfOk result (λ run. IsShort (S.Pages.used space.old) (run_of run)) }
     ensures spares { WhereTree S.Pages space.old space.new 1 page rowid (λ pages height low high.
         IsPage S.Pages space.old pages page buf.old → LacksRow S.Pages space.old pages height page rowid

@@ -1,4 +1,4 @@
-//! The lower steps of putting a row into a table's tree.
+//! Putting a row into a table's tree, and giving one another payload.
 //!
 //! A row becomes the cell of a leaf. The cells of a page that has one more, or a run of children in the
 //! place of one, are put on that page where they fit, else on that page and on new ones, which then are
@@ -16,6 +16,9 @@ mod leaf_step;
 mod node;
 mod packed_leaf;
 mod place;
+mod replace_below;
+mod replace_leaf;
+mod replaced;
 mod root;
 mod row;
 mod run;
@@ -29,6 +32,7 @@ pub use leaf::{lay_leaf, lay_parts};
 pub use leaf_step::{is_same, leads, leaf_in};
 pub use node::{lay_lower, lay_node};
 pub use place::{place_of, set_child, with_children};
+pub use replaced::replace;
 pub use root::raise_root;
 pub use row::insert;
 pub use run::{Run, ascends_in, last_key_of, one_child, run_behind};

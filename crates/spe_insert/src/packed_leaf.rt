@@ -13,6 +13,7 @@ ghost use Rattle.spe_frame.specs.Held.{Spares, WhereHeld};
 ghost use Rattle.spe_write.specs.Chain.{IsLikelyOfTree};
 ghost use Rattle.spe_insert.specs.Below.{Becomes, IsPage, IsShort, LacksRow, WhereTree, first_child, pages_for};
 ghost use Rattle.spe_insert.specs.Leaf.{LaysLeaf};
+ghost use Rattle.spe_insert.specs.Edit.{puts};
 ghost use Rattle.spe_insert.specs.Run.{run_of};
 
 use crate::cell::write_cell;
@@ -90,7 +91,7 @@ pub(crate) fn put_packed<S: PageSpace>(
     requires within { IsWithin 0 (S.Pages.used space.old) slot }
     ensures put { IfOk result (λ run. WhereTree S.Pages space.old space.new 1 page rowid (λ pages height low high.
         IsPage S.Pages space.old pages page buf.old → LacksRow S.Pages space.old pages height page rowid
-        → Becomes S.Pages space.old space.new pages height low high page rowid payload.now (run_of run))) }
+        → Becomes S.Pages space.old space.new pages height low high page rowid (puts payload.now) (run_of run))) }
     ensures short { IfOk result (λ run. IsShort (S.Pages.used space.old) (run_of run)) }
     ensures spares { WhereTree S.Pages space.old space.new 1 page rowid (λ pages height low high.
         IsPage S.Pages space.old pages page buf.old → LacksRow S.Pages space.old pages height page rowid

@@ -1,4 +1,4 @@
--- The rows of a table where its tree has one more.
+-- The rows of a table where its tree has one more, or another payload in one.
 use Rattle.std.proofs.Common.{◌≡◌, ℕ, ℤ, ◌+◌, ◌<◌, inl, inr, Bool, true, false, ◌||◌, List, [], ◌∷◌, ◌++◌, filter, Option, Some, None, is_some, refl, sym, ap, ◌∙◌, subst, arith}
 use Rattle.std.specs.Prelude.{int_lt, nat_lt, if◌then◌else◌}
 use Rattle.std.specs.Ordering.{int_eq}
@@ -9,13 +9,15 @@ use Rattle.spe_model.specs.Database.{Row}
 use Rattle.spe_model.specs.Rows.{with_row}
 use Rattle.spe_model.specs.Standing.{AreTableRows, IsTableRow}
 use Rattle.spe_model.specs.Tree.{rank, row_at}
+use Rattle.spe_cut.specs.Changed.{with_payload}
 use Rattle.spe_cut.specs.Rows.{with_row as with_stored}
 use Rattle.spe_cut.proofs.OrderLemmas.{lower_rank}
 use Rattle.spe_slow.specs.Answers.{is_taken}
+use Rattle.spe_modify.specs.Row.{with_changed}
 use Rattle.spe_modify.proofs.OrderLemmas.{Ascend, lower_other, not_lower}
 
 -- a row has the rowid under which it is stored
-same_rowid : (table : TableDef) (x : ℤ × List ℕ) (r : Row) → IsTableRow table x r → r.0 ≡ x.0
+pub same_rowid : (table : TableDef) (x : ℤ × List ℕ) (r : Row) → IsTableRow table x r → r.0 ≡ x.0
 same_rowid table x r is = ap (λ (row : Row). row.0) is.3
 
 taken_step : (b : Bool) (payload : List ℕ) (found : Option (List ℕ)) (rest : Bool) → rest ≡ is_some found → (b || rest) ≡ is_some (if b then Some payload else found)
@@ -94,3 +96,18 @@ pub rows_put : (table : TableDef) (rowid : ℤ) (payload : List ℕ) (new : Row)
 rows_put table rowid payload new low xs rs fits is up are none =
     subst (λ (k : ℤ). AreTableRows table (with_stored rowid payload xs) (between k new rs)) (sym (same_rowid table (rowid, payload) new is))
     (put_between table rowid payload new low xs rs fits is up are none)
+
+-- and with another payload in one
+pub rows_changed : (table : TableDef) (rowid : ℤ) (payload : List ℕ) (new : Row) (xs : List (ℤ × List ℕ)) (rs : List Row) → IsTableRow table (rowid, payload) new → AreTableRows table xs rs
+    → AreTableRows table (with_payload rowid payload xs) (with_changed new rs)
+rows_changed table rowid payload new [] [] is are = tt
+rows_changed table rowid payload new [] (r ∷ rs) is are = absurd are
+rows_changed table rowid payload new (x ∷ xs) [] is are = absurd are
+rows_changed table rowid payload new (x ∷ xs) (r ∷ rs) is are =
+    let same : int_eq r.0 new.0 ≡ int_eq x.0 rowid =
+    ap (λ (k : ℤ). int_eq k new.0) (same_rowid table x r are.0) ∙ ap (λ (k : ℤ). int_eq x.0 k) (same_rowid table (rowid, payload) new is) in
+    let rest = rows_changed table rowid payload new xs rs is are.1 in
+    elim (cases_Bool (int_eq x.0 rowid)) [
+      | inl here ↦ rw (same, here) (is, rest)
+      | inr other ↦ rw (same, other) (are.0, rest)
+    ]

@@ -1,4 +1,4 @@
--- An open table of served pages that gets a row.
+-- An open table of served pages that gets a row, or other values in one.
 use Rattle.std.proofs.Common.{◌≡◌, ℕ, ℤ, ◌*◌, ◌^◌, ◌<◌, ◌≤◌, true, List, [], length, Option, Some, None, is_some, sym, ap, ◌∙◌, subst, arith}
 use Rattle.std.specs.Prelude.{Result, Ok, Err, IfOk}
 use Rattle.std.proofs.Math.Nat.{mul-le-mul_left}
@@ -17,10 +17,10 @@ use Rattle.spe_space.specs.Front.{number_in}
 use Rattle.spe_frame.specs.Held.{IsReady}
 use Rattle.spe_served.specs.Change.{ChangesTable, IsServed, TableAlone}
 use Rattle.spe_served.specs.Lists.{ListsStand}
-use Rattle.spe_insert.specs.Insert.{Added, IsOwn, Present, marked_root, most_pages}
-use Rattle.spe_modify.specs.Row.{GainsRow, HasRowid, IsOpen, TableOf}
+use Rattle.spe_insert.specs.Insert.{Added, IsOwn, Present, Replaced, Unmatched, marked_root, most_pages}
+use Rattle.spe_modify.specs.Row.{ChangesRow, GainsRow, HasRowid, IsOpen, LacksRowid, TableOf, with_changed}
 use Rattle.spe_modify.proofs.OrderLemmas.{Ascend, tree_ascends}
-use Rattle.spe_modify.proofs.RowsLemmas.{rows_put, taken_is}
+use Rattle.spe_modify.proofs.RowsLemmas.{rows_changed, rows_put, taken_is}
 
 -- what follows of an Ok from one fact, or from two
 pub if_ok : {X E : Type 0} {A B : X → Type 0} → (r : Result X E) → ((x : X) → A x → B x) → IfOk r A → IfOk r B
@@ -110,4 +110,28 @@ has_rowid g s new pages root t rowid is alone reads present = record {
   present = taken_is t.entry.table rowid (tree_rows (g.used s) (sight g s pages) alone.tree.height alone.tree.root) t.rows (rows_are g s pages root t is alone)
       ∙ ap (λ (o : Option (List ℕ)). is_some o) present.row;
   served = served_still g t.opening s new pages t.db reads present.shifts.ready is.served;
+}
+
+pub changes : {P : Type 0} (g : Ghosts P) (s new : P) (pages : Paging) (root : ℕ) (t : TableOf) (rowid : ℤ) (payload : List ℕ)
+    → IsOpen g s pages root t → (alone : Alone g s pages t) → Replaced g s new pages root alone.tree rowid payload → ChangesRow g new pages t rowid payload
+changes g s new pages root t rowid payload is alone replaced =
+    let table = t.entry.table in
+    let stored = tree_rows (g.used s) (sight g s pages) alone.tree.height alone.tree.root in
+    let are = rows_are g s pages root t is alone in
+    record {
+      present = taken_is table rowid stored t.rows are ∙ replaced.present;
+      served = λ row stands. alone.again new replaced.other (most_pages (g.used s) (length payload)) (with_changed row t.rows) replaced.shifts (record {
+        sort = replaced.sort;
+        grown = subst (λ (n : ℕ). IsGrown (g.used new) (sight g new pages) (marked_root n) replaced.other) (sym is.root_is) replaced.grown;
+        rows_are = subst (λ (xs : List (ℤ × List ℕ)). AreTableRows table xs (with_changed row t.rows)) (sym replaced.rows)
+            (rows_changed table rowid payload row stored t.rows stands are);
+      });
+    }
+
+pub lacks_rowid : {P : Type 0} (g : Ghosts P) (s new : P) (pages : Paging) (root : ℕ) (t : TableOf) (rowid : ℤ)
+    → IsOpen g s pages root t → (alone : Alone g s pages t) → Reads g s new → Unmatched g s new pages alone.tree rowid → LacksRowid g new pages t rowid
+lacks_rowid g s new pages root t rowid is alone reads none = record {
+  absent = taken_is t.entry.table rowid (tree_rows (g.used s) (sight g s pages) alone.tree.height alone.tree.root) t.rows (rows_are g s pages root t is alone)
+      ∙ ap (λ (o : Option (List ℕ)). is_some o) none.absent;
+  served = served_still g t.opening s new pages t.db reads none.shifts.ready is.served;
 }

@@ -1,5 +1,6 @@
--- A row that is put into an open table of a served database, at a bound `P: Pages`.
-use Rattle.std.specs.Prelude.{◌≡◌, ℕ, ℤ, true, false, List, None, Some}
+-- A row that is put into an open table of a served database, or gets other values there, at a bound `P: Pages`.
+use Rattle.std.specs.Prelude.{◌≡◌, ℕ, ℤ, true, false, List, map, None, Some, if◌then◌else◌}
+use Rattle.std.specs.Ordering.{int_eq}
 use Rattle.spe_model.specs.declared.catalog.Entry.{Entry}
 use Rattle.spe_model.specs.Database.{Database, Row}
 use Rattle.spe_model.specs.Justified.{Opening}
@@ -44,6 +45,22 @@ pub record GainsRow {P : Type 0} (g : Ghosts P) (new : P) (pages : Paging) (t : 
 -- A row has the rowid, and the pages are served for the same database.
 pub record HasRowid {P : Type 0} (g : Ghosts P) (new : P) (pages : Paging) (t : TableOf) (rowid : ℤ) : Type 0 where
   pub present : is_taken t.rows rowid ≡ true
+  pub served : IsServed g t.opening new pages t.db
+
+-- the rows with another one in the place of that which has its rowid
+abbrev pub with_changed : Row → List Row → List Row
+with_changed row rows = map (λ (r : Row). if int_eq r.0 row.0 then row else r) rows
+
+-- A row had the rowid, and the pages are served for the database with that row in its place which the rowid and the record
+-- stand for.
+pub record ChangesRow {P : Type 0} (g : Ghosts P) (new : P) (pages : Paging) (t : TableOf) (rowid : ℤ) (bytes : List ℕ) : Type 0 where
+  pub present : is_taken t.rows rowid ≡ true
+  pub served : (row : Row) → IsTableRow t.entry.table (rowid, bytes) row
+      → IsServed g t.opening new pages (with_rows t.name (with_changed row t.rows) t.db)
+
+-- No row has the rowid, and the pages are served for the same database.
+pub record LacksRowid {P : Type 0} (g : Ghosts P) (new : P) (pages : Paging) (t : TableOf) (rowid : ℤ) : Type 0 where
+  pub absent : is_taken t.rows rowid ≡ false
   pub served : IsServed g t.opening new pages t.db
 
 -- whatever is in use apart from the table's own tree and its chains stays, for a record of so many bytes

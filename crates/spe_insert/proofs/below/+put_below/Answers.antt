@@ -6,6 +6,7 @@ use Rattle.spe_write.specs.Chain.{IsSureOfTree}
 use Rattle.spe_space.specs.Front.{number_in}
 use Rattle.spe_search.specs.declared.page.Step.TheVariants.{Child, Missing, Row}
 use Rattle.spe_insert.specs.Below.{Becomes, IsPlaceFor, IsThere, pages_for}
+use Rattle.spe_insert.specs.Edit.{puts}
 use Rattle.spe_insert.specs.Run.{run_of}
 use Rattle.spe_insert.proofs.LookLemmas.{IsAtChild, IsAtLeaf, IsLooked, IsReturn, at_child, at_leaf, becomes_seen, becomes_up, less_below, looked_is, page_held, page_same, returns_from, row_there, spares_back, spares_below, spares_got, spares_seen, there_below, tree_seen}
 use Rattle.spe_insert.proofs.below.+put_below.Goals as goal
@@ -25,9 +26,9 @@ returns-in-Ok-clause-put g t c = λ pages height low high agrees less placed.
     let looked : IsLooked g.S.Pages s a pages page z (Missing) = looked_is g.S.Pages s a pages page z z _ (Missing) _ refl c.in-Ok-Missing.field-0-is agrees_a c.in-Ok-Missing.ensures.reads
     (λ ready held. c.in-Ok-Missing.ensures.shifts pages agrees_a ready held) c.in-Ok-Missing.ensures.given c.in-Ok-Missing.ensures.wide c.in-Ok-Missing.ensures.inside bytes in
     let run = run_of c.in-Ok.run' in
-    subst (λ (k : ℤ). Becomes g.S.Pages s e pages height low high page k c.args.payload.now run) same
-    (at_leaf g.S.Pages laws s a pages low high page z (λ h. Becomes g.S.Pages s e pages h low high page z c.args.payload.now run) height looked at_z
-    (λ (leaf : IsAtLeaf g.S.Pages s a pages low high page z). becomes_seen g.S.Pages laws s a e pages 0 low high page z c.args.payload.now run looked.reads leaf.seen
+    subst (λ (k : ℤ). Becomes g.S.Pages s e pages height low high page k (puts c.args.payload.now) run) same
+    (at_leaf g.S.Pages laws s a pages low high page z (λ h. Becomes g.S.Pages s e pages h low high page z (puts c.args.payload.now) run) height looked at_z
+    (λ (leaf : IsAtLeaf g.S.Pages s a pages low high page z). becomes_seen g.S.Pages laws s a e pages 0 low high page z (puts c.args.payload.now) run looked.reads leaf.seen
     (c.in-Ok.ensures.put pages 0 low high agrees (omega arith) leaf.placed (page_same g.S.Pages s a pages page _ looked.reads bytes) leaf.absent)))
 
 pub returns-in-Ok-clause-spares : goal.returns-in-Ok-clause-spares
@@ -119,15 +120,15 @@ returns-in-Ok-put_run-clause-put g t c = λ pages height low high agrees less pl
     (λ ready held. c.in-Ok-Child.ensures.shifts pages agrees_a ready held) c.in-Ok-Child.ensures.given c.in-Ok-Child.ensures.wide c.in-Ok-Child.ensures.inside bytes in
     let run = run_of c.in-Ok-Some.run' in
     let child = c.in-Ok-Child.child in
-    let payload = c.args.payload.now in
+    let edit = puts c.args.payload.now in
     let puts = rw c.in-Ok-Some.field-0-is at c.in-Ok-Some.ensures.put in
     let new = run_of c.in-Ok-put_run.all in
-    subst (λ (k : ℤ). Becomes g.S.Pages s e pages height low high page k payload new) same (
-    at_child g.S.Pages laws s a pages low high page z child (λ h. Becomes g.S.Pages s e pages h low high page z payload new) height looked at_z
+    subst (λ (k : ℤ). Becomes g.S.Pages s e pages height low high page k edit new) same (
+    at_child g.S.Pages laws s a pages low high page z child (λ h. Becomes g.S.Pages s e pages h low high page z edit new) height looked at_z
     (λ h (down : IsAtChild g.S.Pages s a pages h low high page z child) is.
-    let back : IsReturn g.S.Pages s a m pages h low high page z payload child run = returns_from g.S.Pages laws s a m pages h low high page z payload child run down
+    let back : IsReturn g.S.Pages s a m pages h low high page z edit child run = returns_from g.S.Pages laws s a m pages h low high page z edit child run down
     (puts pages h _ _ agrees_m (less_below height h c.args.levels is less) down.at) in
-    becomes_up g.S.Pages laws s a m e pages h low high page z payload child run new looked.reads looked.wide (g.met.S.Pages.bounded a) back
+    becomes_up g.S.Pages laws s a m e pages h low high page z edit child run new looked.reads looked.wide (g.met.S.Pages.bounded a) back
     (c.in-Ok-put_run.ensures.laid pages agrees back.ready back.held back.down.children down.later back.begun)))
 
 pub returns-in-Ok-put_run-clause-spares : goal.returns-in-Ok-put_run-clause-spares
@@ -152,13 +153,13 @@ returns-in-Ok-Some-clause-spares g t c = λ pages height low high agrees less pl
     (λ ready held. c.in-Ok-Child.ensures.shifts pages agrees_a ready held) c.in-Ok-Child.ensures.given c.in-Ok-Child.ensures.wide c.in-Ok-Child.ensures.inside bytes in
     let run = run_of c.in-Ok-Some.run' in
     let child = c.in-Ok-Child.child in
-    let payload = c.args.payload.now in
+    let edit = puts c.args.payload.now in
     let puts = rw c.in-Ok-Some.field-0-is at c.in-Ok-Some.ensures.put in
-    at_child g.S.Pages laws s a pages low high page z child (λ h. Spares g.S.Pages s e pages (all_pages (g.S.Pages.used s) (sight g.S.Pages s pages) h page) (pages_for (g.S.Pages.used s) h (length payload))) height looked at_z
+    at_child g.S.Pages laws s a pages low high page z child (λ h. Spares g.S.Pages s e pages (all_pages (g.S.Pages.used s) (sight g.S.Pages s pages) h page) (pages_for (g.S.Pages.used s) h (length c.args.payload.now))) height looked at_z
     (λ h (down : IsAtChild g.S.Pages s a pages h low high page z child) is.
-    let back : IsReturn g.S.Pages s a m pages h low high page z payload child run = returns_from g.S.Pages laws s a m pages h low high page z payload child run down
+    let back : IsReturn g.S.Pages s a m pages h low high page z edit child run = returns_from g.S.Pages laws s a m pages h low high page z edit child run down
     (puts pages h _ _ agrees_m (less_below height h c.args.levels is less) down.at) in
-    spares_back g.S.Pages laws s a m e pages h low high page z payload child run looked.reads back (c.in-Err-put_run.ensures.spares pages agrees back.ready back.held down.later))
+    spares_back g.S.Pages laws s a m e pages h low high page z edit child run looked.reads back (c.in-Err-put_run.ensures.spares pages agrees back.ready back.held down.later))
 
 pub returns-in-Ok-Some-clause-likely : goal.returns-in-Ok-Some-clause-likely
 returns-in-Ok-Some-clause-likely g t c = λ pages height low high agrees less placed unsealed.
@@ -178,11 +179,11 @@ returns-in-Ok-Some-clause-likely g t c = λ pages height low high agrees less pl
     (λ ready held. c.in-Ok-Child.ensures.shifts pages agrees_a ready held) c.in-Ok-Child.ensures.given c.in-Ok-Child.ensures.wide c.in-Ok-Child.ensures.inside bytes in
     let run = run_of c.in-Ok-Some.run' in
     let child = c.in-Ok-Child.child in
-    let payload = c.args.payload.now in
+    let edit = puts c.args.payload.now in
     let puts = rw c.in-Ok-Some.field-0-is at c.in-Ok-Some.ensures.put in
     at_child g.S.Pages laws s a pages low high page z child (λ h. IsSureOfTree (number_in (sight g.S.Pages e pages)) c.in-Err-put_run.fault) height looked at_z
     (λ h (down : IsAtChild g.S.Pages s a pages h low high page z child) is.
-    let back : IsReturn g.S.Pages s a m pages h low high page z payload child run = returns_from g.S.Pages laws s a m pages h low high page z payload child run down
+    let back : IsReturn g.S.Pages s a m pages h low high page z edit child run = returns_from g.S.Pages laws s a m pages h low high page z edit child run down
     (puts pages h _ _ agrees_m (less_below height h c.args.levels is less) down.at) in
     c.in-Err-put_run.ensures.likely pages agrees back.ready back.held back.down.children (c.in-Ok-Some.ensures.kept.sealed ∙ looked.reads.sealed ∙ unsealed) down.later back.begun back.ascends_)
 
@@ -201,7 +202,7 @@ returns-in-Ok-None-clause-there g t c = λ none pages height low high agrees les
     let looked : IsLooked g.S.Pages s a pages page z (Child c.in-Ok-Child.child) = looked_is g.S.Pages s a pages page z z _ (Child c.in-Ok-Child.child) _ refl c.in-Ok-Child.field-0-is agrees_a c.in-Ok-Child.ensures.reads
     (λ ready held. c.in-Ok-Child.ensures.shifts pages agrees_a ready held) c.in-Ok-Child.ensures.given c.in-Ok-Child.ensures.wide c.in-Ok-Child.ensures.inside bytes in
     let child = c.in-Ok-Child.child in
-    let payload = c.args.payload.now in
+    let edit = puts c.args.payload.now in
     subst (λ (k : ℤ). IsThere g.S.Pages s e pages height page k) same (
     at_child g.S.Pages laws s a pages low high page z child (λ h. IsThere g.S.Pages s e pages h page z) height looked at_z
     (λ h (down : IsAtChild g.S.Pages s a pages h low high page z child) is. there_below g.S.Pages laws s a e pages h low high page z child looked.reads down
@@ -222,9 +223,9 @@ returns-in-Ok-None-clause-spares g t c = λ pages height low high agrees less pl
     let looked : IsLooked g.S.Pages s a pages page z (Child c.in-Ok-Child.child) = looked_is g.S.Pages s a pages page z z _ (Child c.in-Ok-Child.child) _ refl c.in-Ok-Child.field-0-is agrees_a c.in-Ok-Child.ensures.reads
     (λ ready held. c.in-Ok-Child.ensures.shifts pages agrees_a ready held) c.in-Ok-Child.ensures.given c.in-Ok-Child.ensures.wide c.in-Ok-Child.ensures.inside bytes in
     let child = c.in-Ok-Child.child in
-    let payload = c.args.payload.now in
-    at_child g.S.Pages laws s a pages low high page z child (λ h. Spares g.S.Pages s e pages (all_pages (g.S.Pages.used s) (sight g.S.Pages s pages) h page) (pages_for (g.S.Pages.used s) h (length payload))) height looked at_z
-    (λ h (down : IsAtChild g.S.Pages s a pages h low high page z child) is. spares_below g.S.Pages laws s a e pages h low high page (length payload) z child looked.reads down
+    let edit = puts c.args.payload.now in
+    at_child g.S.Pages laws s a pages low high page z child (λ h. Spares g.S.Pages s e pages (all_pages (g.S.Pages.used s) (sight g.S.Pages s pages) h page) (pages_for (g.S.Pages.used s) h (length c.args.payload.now))) height looked at_z
+    (λ h (down : IsAtChild g.S.Pages s a pages h low high page z child) is. spares_below g.S.Pages laws s a e pages h low high page (length c.args.payload.now) z child looked.reads down
     (c.in-Ok-None.ensures.spares pages h _ _ agrees (less_below height h c.args.levels is less) down.at))
 
 pub returns-in-Ok-Child-clause-spares : goal.returns-in-Ok-Child-clause-spares
@@ -242,9 +243,9 @@ returns-in-Ok-Child-clause-spares g t c = λ pages height low high agrees less p
     let looked : IsLooked g.S.Pages s a pages page z (Child c.in-Ok-Child.child) = looked_is g.S.Pages s a pages page z z _ (Child c.in-Ok-Child.child) _ refl c.in-Ok-Child.field-0-is agrees_a c.in-Ok-Child.ensures.reads
     (λ ready held. c.in-Ok-Child.ensures.shifts pages agrees_a ready held) c.in-Ok-Child.ensures.given c.in-Ok-Child.ensures.wide c.in-Ok-Child.ensures.inside bytes in
     let child = c.in-Ok-Child.child in
-    let payload = c.args.payload.now in
-    at_child g.S.Pages laws s a pages low high page z child (λ h. Spares g.S.Pages s e pages (all_pages (g.S.Pages.used s) (sight g.S.Pages s pages) h page) (pages_for (g.S.Pages.used s) h (length payload))) height looked at_z
-    (λ h (down : IsAtChild g.S.Pages s a pages h low high page z child) is. spares_below g.S.Pages laws s a e pages h low high page (length payload) z child looked.reads down
+    let edit = puts c.args.payload.now in
+    at_child g.S.Pages laws s a pages low high page z child (λ h. Spares g.S.Pages s e pages (all_pages (g.S.Pages.used s) (sight g.S.Pages s pages) h page) (pages_for (g.S.Pages.used s) h (length c.args.payload.now))) height looked at_z
+    (λ h (down : IsAtChild g.S.Pages s a pages h low high page z child) is. spares_below g.S.Pages laws s a e pages h low high page (length c.args.payload.now) z child looked.reads down
     (c.in-Err-put_below.ensures.spares pages h _ _ agrees (less_below height h c.args.levels is less) down.at))
 
 pub returns-in-Ok-Child-clause-likely : goal.returns-in-Ok-Child-clause-likely
@@ -262,7 +263,7 @@ returns-in-Ok-Child-clause-likely g t c = λ pages height low high agrees less p
     let looked : IsLooked g.S.Pages s a pages page z (Child c.in-Ok-Child.child) = looked_is g.S.Pages s a pages page z z _ (Child c.in-Ok-Child.child) _ refl c.in-Ok-Child.field-0-is agrees_a c.in-Ok-Child.ensures.reads
     (λ ready held. c.in-Ok-Child.ensures.shifts pages agrees_a ready held) c.in-Ok-Child.ensures.given c.in-Ok-Child.ensures.wide c.in-Ok-Child.ensures.inside bytes in
     let child = c.in-Ok-Child.child in
-    let payload = c.args.payload.now in
+    let edit = puts c.args.payload.now in
     at_child g.S.Pages laws s a pages low high page z child (λ h. IsSureOfTree (number_in (sight g.S.Pages e pages)) c.in-Err-put_below.fault) height looked at_z
     (λ h (down : IsAtChild g.S.Pages s a pages h low high page z child) is.
     c.in-Err-put_below.ensures.likely pages h _ _ agrees (less_below height h c.args.levels is less) down.at (looked.reads.sealed ∙ unsealed))

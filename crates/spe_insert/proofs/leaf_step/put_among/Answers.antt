@@ -11,6 +11,7 @@ use Rattle.spe_write.specs.Chain.{IsSureOfTree}
 use Rattle.spe_insert.specs.Below.{Becomes, IsPage, IsPlaceFor, LacksRow, pages_for}
 use Rattle.spe_insert.specs.LeafStep.{IsGap, leads_with}
 use Rattle.spe_insert.specs.Place.{place_for}
+use Rattle.spe_insert.specs.Edit.{puts}
 use Rattle.spe_insert.specs.Run.{run_of}
 use Rattle.spe_insert.proofs.GapLemmas.{all_fits, all_writable}
 use Rattle.spe_insert.proofs.PutLeafLemmas.{Laws, at_zero, chain_spares, held_so, no_row_there, step_of, step_puts, step_spares}
@@ -78,7 +79,7 @@ returns-in-Ok-lay_leaf-clause-put g c = λ pages height low high agrees less.
       stay = c.row_law.ensures.stay;
     } in
     at_zero (λ (h : ℕ). IsPlaceFor g.S.Pages s pages h low high c.args.page c.args.rowid → IsPage g.S.Pages s pages c.args.page c.args.buf.now
-    → LacksRow g.S.Pages s pages h c.args.page c.args.rowid → Becomes g.S.Pages s b pages h low high c.args.page c.args.rowid c.args.payload.now (run_of c.in-Ok-lay_leaf.run'))
+    → LacksRow g.S.Pages s pages h c.args.page c.args.rowid → Becomes g.S.Pages s b pages h low high c.args.page c.args.rowid (puts c.args.payload.now) (run_of c.in-Ok-lay_leaf.run'))
     (λ at is lacks.
     let x = step_of g.S.Pages s a pages low high c.args.page c.usable-usable.result c.args.rowid c.args.buf.now c.in-Ok.cells c.in-Some.place c.in-Ok-write_cell.cell c.args.payload.now
     c.usable-usable.ensures.value at is c.in-Ok.ensures.leaf (subst (λ (k : ℤ). IsGap (rank k) c.in-Ok.cells c.in-Some.place) same (subst (λ (cs : List Cell). IsGap (rank (to_z w64 (of_z w64 c.args.rowid))) cs c.in-Some.place) c.as_slice.ensures c.in-Some.ensures.gap)) (c.in-Ok-write_cell.ensures.payload pages agrees_a at.ready (c.shifts_law.ensures.none s pages))

@@ -1,5 +1,4 @@
-use Rattle.std.proofs.Common.{◌≡◌, ◌∙◌, ℕ, ℤ, List, ◌++◌, ◌∷◌, take, drop, length, refl, subst, sym, arith, to_z, of_z, w64, to_z-of_z}
-use Rattle.spe_model.specs.declared.page.Cell.{Cell}
+use Rattle.std.proofs.Common.{◌≡◌, ◌∙◌, ℕ, ℤ, ◌++◌, ◌∷◌, take, drop, length, refl, subst, sym, arith, to_z, of_z, w64, to_z-of_z}
 use Rattle.spe_model.specs.declared.page.Kind.TheVariants.{TableLeaf}
 use Rattle.spe_model.specs.Standing.{all_pages}
 use Rattle.spe_model.specs.Tree.{rank}
@@ -10,6 +9,7 @@ use Rattle.spe_format.specs.Packed.{IsSlot, IsSlotFor, IsWithin}
 use Rattle.spe_frame.specs.Held.{Spares}
 use Rattle.spe_write.specs.Chain.{IsSureOfTree}
 use Rattle.spe_insert.specs.Below.{Becomes, IsPage, IsPlaceFor, LacksRow, pages_for}
+use Rattle.spe_insert.specs.Edit.{puts}
 use Rattle.spe_insert.specs.Run.{run_of}
 use Rattle.spe_insert.proofs.PackedLeafLemmas.{slot_gap, slot_leaf, slot_with}
 use Rattle.spe_insert.proofs.PutLeafLemmas.{Laws, at_zero, chain_spares, held_so, step_of, step_puts, step_spares}
@@ -62,7 +62,7 @@ returns-in-Ok-lay_packed-clause-put g c = λ pages height low high agrees less.
     let kept : IsSlot c.args.buf.now 0 (g.S.Pages.used a) c.args.slot found.before found.after =
     subst (λ (u : ℕ). IsSlot c.args.buf.now 0 u c.args.slot found.before found.after) (sym c.in-Ok.ensures.kept.used) found.is in
     at_zero (λ (h : ℕ). IsPlaceFor g.S.Pages s pages h low high c.args.page c.args.rowid → IsPage g.S.Pages s pages c.args.page c.args.buf.now
-    → LacksRow g.S.Pages s pages h c.args.page c.args.rowid → Becomes g.S.Pages s b pages h low high c.args.page c.args.rowid c.args.payload.now (run_of c.in-Ok-lay_packed.run'))
+    → LacksRow g.S.Pages s pages h c.args.page c.args.rowid → Becomes g.S.Pages s b pages h low high c.args.page c.args.rowid (puts c.args.payload.now) (run_of c.in-Ok-lay_packed.run'))
     (λ at is lacks.
     let x = step_of g.S.Pages s a pages low high c.args.page used c.args.rowid c.args.buf.now cells c.args.slot.place c.in-Ok.cell c.args.payload.now
     refl at is (slot_leaf used c.args.buf.now c.args.slot found.before found.after found.is) (slot_gap used (rank c.args.rowid) c.args.buf.now c.args.slot found)

@@ -9,10 +9,11 @@ use Rattle.spe_space.specs.Calls.{sight}
 use Rattle.spe_frame.specs.Held.{Spares}
 use Rattle.spe_write.specs.Chain.{IsLikelyOfTree}
 use Rattle.spe_cut.proofs.OrderLemmas.{run_ascends}
+use Rattle.spe_insert.specs.Edit.{puts}
 use Rattle.spe_insert.specs.Insert.{Added, Present, most_pages}
 use Rattle.spe_insert.specs.Run.{run_of}
-use Rattle.spe_insert.proofs.RootLemmas.{added_alone, own_low, own_place}
-use Rattle.spe_insert.proofs.RaiseLemmas.{IsLow, added_raised, PutWhere, for_tree, low_spares, most, none_there, raise_spares, rank_below, root_held, root_later, some_of, some_there}
+use Rattle.spe_insert.proofs.RootLemmas.{added_from, edited_alone, own_low, own_place, tree_at}
+use Rattle.spe_insert.proofs.RaiseLemmas.{IsLow, edited_raised, PutWhere, for_tree, low_spares, most, none_there, raise_spares, rank_below, root_held, root_later, some_of, some_there}
 use Rattle.spe_insert.proofs.row.insert.Goals as goal
 
 pub returns-in-Ok-None-clause-there : goal.returns-in-Ok-None-clause-there
@@ -38,7 +39,7 @@ returns-in-Ok-None-clause-spares g c = λ pages tree agrees own.
     let low_row : rank rowid < most = rank_below rowid (subst (λ (z : ℤ). mag z < 9223372036854775808) (sym same_row) c.ranges.rowid.sfits) in
     let payload = c.args.payload.now in
     for_tree g.S.Pages s pages root tree (λ t. Spares g.S.Pages s m pages (pages_of_tree (g.S.Pages.used s) (sight g.S.Pages s pages) t) (most_pages (g.S.Pages.used s) (length payload))) own (λ height own_.
-    low_spares g.S.Pages c.shifts_law.ensures.spares_more s m pages root height payload own_
+    low_spares g.S.Pages c.shifts_law.ensures.spares_more s m pages root height (puts payload) own_
     (c.in-Ok-None.ensures.spares pages height 0 most agrees (own_low g.S.Pages s pages root height own_) (own_place g.S.Pages s pages root height rowid low_row own_)))
 
 pub returns-in-Err-clause-spares : goal.returns-in-Err-clause-spares
@@ -51,7 +52,7 @@ returns-in-Err-clause-spares g c = λ pages tree agrees own.
     let low_row : rank rowid < most = rank_below rowid (subst (λ (z : ℤ). mag z < 9223372036854775808) (sym same_row) c.ranges.rowid.sfits) in
     let payload = c.args.payload.now in
     for_tree g.S.Pages s pages root tree (λ t. Spares g.S.Pages s m pages (pages_of_tree (g.S.Pages.used s) (sight g.S.Pages s pages) t) (most_pages (g.S.Pages.used s) (length payload))) own (λ height own_.
-    low_spares g.S.Pages c.shifts_law.ensures.spares_more s m pages root height payload own_
+    low_spares g.S.Pages c.shifts_law.ensures.spares_more s m pages root height (puts payload) own_
     (c.in-Err.ensures.spares pages height 0 most agrees (own_low g.S.Pages s pages root height own_) (own_place g.S.Pages s pages root height rowid low_row own_)))
 
 pub returns-then-is_empty-clause-put : goal.returns-then-is_empty-clause-put
@@ -65,12 +66,13 @@ returns-then-is_empty-clause-put g c = λ same pages tree agrees own.
     let payload = c.args.payload.now in
     let none : (run_of c.in-Ok-Some.run').cells ≡ [] = sym c.as_slice.ensures ∙ none_there c.as_slice.result.now (sym c.is_empty.ensures ∙ c.if-is_empty.true) in
     subst (λ (z : ℤ). Added g.S.Pages s m pages root tree z payload) same_row (for_tree g.S.Pages s pages root tree (λ t. Added g.S.Pages s m pages root t rowid payload) own (λ height own_.
-    let low : IsLow g.S.Pages s m pages root height rowid payload (run_of c.in-Ok-Some.run') = record {
+    let low : IsLow g.S.Pages s m pages root height rowid (puts payload) (run_of c.in-Ok-Some.run') = record {
       wide = omega (arith, c.usable-usable.ensures.range.0, c.usable-usable.ensures.value);
       own = own_;
-      becomes = some_of c.in-Ok-Some.field-0 c.in-Ok-Some.run' (PutWhere g.S.Pages s m root rowid payload) c.in-Ok-Some.field-0-is c.in-Ok-Some.ensures.put pages height 0 most agrees (own_low g.S.Pages s pages root height own_) (own_place g.S.Pages s pages root height rowid low_row own_);
+      becomes = some_of c.in-Ok-Some.field-0 c.in-Ok-Some.run' (PutWhere g.S.Pages s m root rowid (puts payload)) c.in-Ok-Some.field-0-is c.in-Ok-Some.ensures.put pages height 0 most agrees (own_low g.S.Pages s pages root height own_) (own_place g.S.Pages s pages root height rowid low_row own_);
     } in
-    added_alone g.S.Pages c.shifts_law.ensures.spares_more s m pages root height rowid payload (run_of c.in-Ok-Some.run') low.wide own_ low.becomes none))
+    added_from g.S.Pages s m pages root (tree_at height root) rowid payload
+    (edited_alone g.S.Pages c.shifts_law.ensures.spares_more s m pages root height rowid (puts payload) (run_of c.in-Ok-Some.run') low.wide own_ low.becomes none)))
 
 pub returns-then-is_empty-clause-spares : goal.returns-then-is_empty-clause-spares
 returns-then-is_empty-clause-spares g c = λ pages tree agrees own.
@@ -82,7 +84,7 @@ returns-then-is_empty-clause-spares g c = λ pages tree agrees own.
     let low_row : rank rowid < most = rank_below rowid (subst (λ (z : ℤ). mag z < 9223372036854775808) (sym same_row) c.ranges.rowid.sfits) in
     let payload = c.args.payload.now in
     for_tree g.S.Pages s pages root tree (λ t. Spares g.S.Pages s m pages (pages_of_tree (g.S.Pages.used s) (sight g.S.Pages s pages) t) (most_pages (g.S.Pages.used s) (length payload))) own (λ height own_.
-    low_spares g.S.Pages c.shifts_law.ensures.spares_more s m pages root height payload own_
+    low_spares g.S.Pages c.shifts_law.ensures.spares_more s m pages root height (puts payload) own_
     (c.in-Ok-Some.ensures.spares pages height 0 most agrees (own_low g.S.Pages s pages root height own_) (own_place g.S.Pages s pages root height rowid low_row own_)))
 
 pub returns-then-not-ascends_in-clause-spares : goal.returns-then-not-ascends_in-clause-spares
@@ -95,7 +97,7 @@ returns-then-not-ascends_in-clause-spares g c = λ pages tree agrees own.
     let low_row : rank rowid < most = rank_below rowid (subst (λ (z : ℤ). mag z < 9223372036854775808) (sym same_row) c.ranges.rowid.sfits) in
     let payload = c.args.payload.now in
     for_tree g.S.Pages s pages root tree (λ t. Spares g.S.Pages s m pages (pages_of_tree (g.S.Pages.used s) (sight g.S.Pages s pages) t) (most_pages (g.S.Pages.used s) (length payload))) own (λ height own_.
-    low_spares g.S.Pages c.shifts_law.ensures.spares_more s m pages root height payload own_
+    low_spares g.S.Pages c.shifts_law.ensures.spares_more s m pages root height (puts payload) own_
     (c.in-Ok-Some.ensures.spares pages height 0 most agrees (own_low g.S.Pages s pages root height own_) (own_place g.S.Pages s pages root height rowid low_row own_)))
 
 pub returns-then-not-ascends_in-clause-likely : goal.returns-then-not-ascends_in-clause-likely
@@ -108,10 +110,10 @@ returns-then-not-ascends_in-clause-likely g c = λ pages tree agrees own unseale
     let low_row : rank rowid < most = rank_below rowid (subst (λ (z : ℤ). mag z < 9223372036854775808) (sym same_row) c.ranges.rowid.sfits) in
     let payload = c.args.payload.now in
     for_tree g.S.Pages s pages root tree (λ t. ⊥) own (λ height own_.
-    let low : IsLow g.S.Pages s m pages root height rowid payload (run_of c.in-Ok-Some.run') = record {
+    let low : IsLow g.S.Pages s m pages root height rowid (puts payload) (run_of c.in-Ok-Some.run') = record {
       wide = omega (arith, c.usable-usable.ensures.range.0, c.usable-usable.ensures.value);
       own = own_;
-      becomes = some_of c.in-Ok-Some.field-0 c.in-Ok-Some.run' (PutWhere g.S.Pages s m root rowid payload) c.in-Ok-Some.field-0-is c.in-Ok-Some.ensures.put pages height 0 most agrees (own_low g.S.Pages s pages root height own_) (own_place g.S.Pages s pages root height rowid low_row own_);
+      becomes = some_of c.in-Ok-Some.field-0 c.in-Ok-Some.run' (PutWhere g.S.Pages s m root rowid (puts payload)) c.in-Ok-Some.field-0-is c.in-Ok-Some.ensures.put pages height 0 most agrees (own_low g.S.Pages s pages root height own_) (own_place g.S.Pages s pages root height rowid low_row own_);
     } in
     let up : ascends (run_of c.in-Ok-Some.run').cells ≡ true = run_ascends (g.S.Pages.used s) (sight g.S.Pages m pages) height 0 most (run_of c.in-Ok-Some.run') low.becomes.is in
     absurd cc)
@@ -130,13 +132,14 @@ returns-in-Ok-clause-put g c = λ same pages tree agrees own.
     let agrees_m = c.in-Ok.ensures.kept.earlier pages agrees in
     let some : 1 ≤ length run.cells = subst (λ (cells : List Cell). 1 ≤ length cells) c.as_slice.ensures (some_there c.as_slice.result.now (sym c.is_empty.ensures ∙ c.if-is_empty.false)) in
     subst (λ (z : ℤ). Added g.S.Pages s e pages root tree z payload) same_row (for_tree g.S.Pages s pages root tree (λ t. Added g.S.Pages s e pages root t rowid payload) own (λ height own_.
-    let low : IsLow g.S.Pages s m pages root height rowid payload (run_of c.in-Ok-Some.run') = record {
+    let low : IsLow g.S.Pages s m pages root height rowid (puts payload) (run_of c.in-Ok-Some.run') = record {
       wide = omega (arith, c.usable-usable.ensures.range.0, c.usable-usable.ensures.value);
       own = own_;
-      becomes = some_of c.in-Ok-Some.field-0 c.in-Ok-Some.run' (PutWhere g.S.Pages s m root rowid payload) c.in-Ok-Some.field-0-is c.in-Ok-Some.ensures.put pages height 0 most agrees_m (own_low g.S.Pages s pages root height own_) (own_place g.S.Pages s pages root height rowid low_row own_);
+      becomes = some_of c.in-Ok-Some.field-0 c.in-Ok-Some.run' (PutWhere g.S.Pages s m root rowid (puts payload)) c.in-Ok-Some.field-0-is c.in-Ok-Some.ensures.put pages height 0 most agrees_m (own_low g.S.Pages s pages root height own_) (own_place g.S.Pages s pages root height rowid low_row own_);
     } in
-    let raised = c.in-Ok.ensures.raised pages agrees low.becomes.shifts.ready (root_held g.S.Pages s m pages root height rowid payload run low c.shifts_law.ensures.apart) (root_later g.S.Pages s m pages root height rowid payload run low) in
-    added_raised g.S.Pages s m pages root height rowid payload run low e some raised c.shifts_law.ensures.both c.shifts_law.ensures.beside c.shifts_law.ensures.alike c.shifts_law.ensures.spares_more))
+    let raised = c.in-Ok.ensures.raised pages agrees low.becomes.shifts.ready (root_held g.S.Pages s m pages root height rowid (puts payload) run low c.shifts_law.ensures.apart) (root_later g.S.Pages s m pages root height rowid (puts payload) run low) in
+    added_from g.S.Pages s e pages root (tree_at height root) rowid payload
+    (edited_raised g.S.Pages s m pages root height rowid (puts payload) run low e some raised c.shifts_law.ensures.both c.shifts_law.ensures.beside c.shifts_law.ensures.alike c.shifts_law.ensures.spares_more)))
 
 pub returns-in-Ok-clause-spares : goal.returns-in-Ok-clause-spares
 returns-in-Ok-clause-spares g c = λ pages tree agrees own. (returns-in-Ok-clause-put g c refl pages tree agrees own).shifts.spares
@@ -154,13 +157,13 @@ returns-clause-spares g c = λ pages tree agrees own.
     let run = run_of c.in-Ok-Some.run' in
     let agrees_m = c.in-Err-raise_root.ensures.kept.earlier pages agrees in
     for_tree g.S.Pages s pages root tree (λ t. Spares g.S.Pages s e pages (pages_of_tree (g.S.Pages.used s) (sight g.S.Pages s pages) t) (most_pages (g.S.Pages.used s) (length payload))) own (λ height own_.
-    let low : IsLow g.S.Pages s m pages root height rowid payload (run_of c.in-Ok-Some.run') = record {
+    let low : IsLow g.S.Pages s m pages root height rowid (puts payload) (run_of c.in-Ok-Some.run') = record {
       wide = omega (arith, c.usable-usable.ensures.range.0, c.usable-usable.ensures.value);
       own = own_;
-      becomes = some_of c.in-Ok-Some.field-0 c.in-Ok-Some.run' (PutWhere g.S.Pages s m root rowid payload) c.in-Ok-Some.field-0-is c.in-Ok-Some.ensures.put pages height 0 most agrees_m (own_low g.S.Pages s pages root height own_) (own_place g.S.Pages s pages root height rowid low_row own_);
+      becomes = some_of c.in-Ok-Some.field-0 c.in-Ok-Some.run' (PutWhere g.S.Pages s m root rowid (puts payload)) c.in-Ok-Some.field-0-is c.in-Ok-Some.ensures.put pages height 0 most agrees_m (own_low g.S.Pages s pages root height own_) (own_place g.S.Pages s pages root height rowid low_row own_);
     } in
-    let fails = c.in-Err-raise_root.ensures.spares pages agrees low.becomes.shifts.ready (root_held g.S.Pages s m pages root height rowid payload run low c.shifts_law.ensures.apart) (root_later g.S.Pages s m pages root height rowid payload run low) in
-    raise_spares g.S.Pages s m pages root height rowid payload run low c.shifts_law.ensures.spares c.shifts_law.ensures.spares_beside c.shifts_law.ensures.spares_alike c.shifts_law.ensures.spares_more e fails)
+    let fails = c.in-Err-raise_root.ensures.spares pages agrees low.becomes.shifts.ready (root_held g.S.Pages s m pages root height rowid (puts payload) run low c.shifts_law.ensures.apart) (root_later g.S.Pages s m pages root height rowid (puts payload) run low) in
+    raise_spares g.S.Pages s m pages root height rowid (puts payload) run low c.shifts_law.ensures.spares c.shifts_law.ensures.spares_beside c.shifts_law.ensures.spares_alike c.shifts_law.ensures.spares_more e fails)
 
 pub returns-clause-likely : goal.returns-clause-likely
 returns-clause-likely g c = λ pages tree agrees own unsealed.
@@ -175,10 +178,10 @@ returns-clause-likely g c = λ pages tree agrees own unsealed.
     let run = run_of c.in-Ok-Some.run' in
     let agrees_m = c.in-Err-raise_root.ensures.kept.earlier pages agrees in
     for_tree g.S.Pages s pages root tree (λ t. IsLikelyOfTree {X = Bool} g.S.Pages e pages (Err (Space c.in-Err-raise_root.fault))) own (λ height own_.
-    let low : IsLow g.S.Pages s m pages root height rowid payload (run_of c.in-Ok-Some.run') = record {
+    let low : IsLow g.S.Pages s m pages root height rowid (puts payload) (run_of c.in-Ok-Some.run') = record {
       wide = omega (arith, c.usable-usable.ensures.range.0, c.usable-usable.ensures.value);
       own = own_;
-      becomes = some_of c.in-Ok-Some.field-0 c.in-Ok-Some.run' (PutWhere g.S.Pages s m root rowid payload) c.in-Ok-Some.field-0-is c.in-Ok-Some.ensures.put pages height 0 most agrees_m (own_low g.S.Pages s pages root height own_) (own_place g.S.Pages s pages root height rowid low_row own_);
+      becomes = some_of c.in-Ok-Some.field-0 c.in-Ok-Some.run' (PutWhere g.S.Pages s m root rowid (puts payload)) c.in-Ok-Some.field-0-is c.in-Ok-Some.ensures.put pages height 0 most agrees_m (own_low g.S.Pages s pages root height own_) (own_place g.S.Pages s pages root height rowid low_row own_);
     } in
-    c.in-Err-raise_root.ensures.likely pages agrees low.becomes.shifts.ready (root_held g.S.Pages s m pages root height rowid payload run low c.shifts_law.ensures.apart)
-    (c.put_below.ensures.kept.sealed ∙ unsealed) (root_later g.S.Pages s m pages root height rowid payload run low))
+    c.in-Err-raise_root.ensures.likely pages agrees low.becomes.shifts.ready (root_held g.S.Pages s m pages root height rowid (puts payload) run low c.shifts_law.ensures.apart)
+    (c.put_below.ensures.kept.sealed ∙ unsealed) (root_later g.S.Pages s m pages root height rowid (puts payload) run low))

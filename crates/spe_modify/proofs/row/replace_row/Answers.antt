@@ -1,0 +1,37 @@
+use Rattle.std.proofs.Common.{◌≡◌, ℤ, subst, arith, to_z, of_z, w64, to_z-of_z}
+use Rattle.spe_insert.specs.Insert.{Replaced, Unmatched}
+use Rattle.spe_modify.proofs.ServedLemmas.{alone_there, changes, if_ok, if_ok_both, lacks_rowid, own}
+use Rattle.spe_modify.proofs.row.replace_row.Goals as goal
+
+pub returns-clause-replaced : goal.returns-clause-replaced
+returns-clause-replaced g c = if_ok c.replace.result (λ added given done pages t agrees is.
+    let s = c.args.space.now in
+    let new = c.replace.new.space in
+    let root = c.args.root in
+    let same : to_z w64 (of_z w64 c.args.rowid) ≡ c.args.rowid = grind (arith, to_z-of_z) in
+    let alone = alone_there g.S.Pages s pages root t c.table_law.ensures.table is in
+    let put = given done pages alone.tree agrees (own g.S.Pages s pages root t (g.met.S.Pages.bounded s).0 is alone) in
+    changes g.S.Pages s new pages root t c.args.rowid c.args.record.now is alone
+    (subst (λ (z : ℤ). Replaced g.S.Pages s new pages root alone.tree z c.args.record.now) same put)) c.replace.ensures.replaced
+
+pub returns-clause-absent : goal.returns-clause-absent
+returns-clause-absent g c = if_ok_both c.replace.result (λ added given reads idle pages t agrees is.
+    let s = c.args.space.now in
+    let new = c.replace.new.space in
+    let root = c.args.root in
+    let same : to_z w64 (of_z w64 c.args.rowid) ≡ c.args.rowid = grind (arith, to_z-of_z) in
+    let alone = alone_there g.S.Pages s pages root t c.table_law.ensures.table is in
+    let there = given idle pages alone.tree agrees (own g.S.Pages s pages root t (g.met.S.Pages.bounded s).0 is alone) in
+    lacks_rowid g.S.Pages s new pages root t c.args.rowid is alone (reads idle)
+    (subst (λ (z : ℤ). Unmatched g.S.Pages s new pages alone.tree z) same there)) c.replace.ensures.absent c.replace.ensures.idle
+
+pub returns-clause-few : goal.returns-clause-few
+returns-clause-few g c = λ pages t agrees is alone.
+    c.replace.ensures.spares pages alone.tree agrees
+    (own g.S.Pages c.args.space.now pages c.args.root t (g.met.S.Pages.bounded c.args.space.now).0 is alone)
+
+pub returns-clause-likely : goal.returns-clause-likely
+returns-clause-likely g c = λ pages t agrees is unsealed.
+    let s = c.args.space.now in
+    let alone = alone_there g.S.Pages s pages c.args.root t c.table_law.ensures.table is in
+    c.replace.ensures.likely pages alone.tree agrees (own g.S.Pages s pages c.args.root t (g.met.S.Pages.bounded s).0 is alone) unsealed
