@@ -19,7 +19,7 @@ use Rattle.spe_freelist.specs.Place.{IsForTaking, Place, WhereListed}
 use Rattle.spe_freelist.specs.Steps.{Gave, GivesLeaf, GivesTrunk, GrowsNot, HasNone, LeavesAlone, MissesTrunk, OnFault, OnFullOf, TakesLeaf, TakesNew, TakesNot, TakesTrunk, Took}
 use Rattle.spe_freelist.proofs.PlaceLemmas.{first_listed, listed_later}
 
-first_low : {P : Type 0} (g : Ghosts P) (s : P) (pages : Paging) (first : ℕ) → Place g s pages first → 2 ≤ first
+pub first_low : {P : Type 0} (g : Ghosts P) (s : P) (pages : Paging) (first : ℕ) → Place g s pages first → 2 ≤ first
 first_low g s pages first place = let low = (listed_later g s pages first place place.own.first (first_listed g s pages first place)).0 in omega (arith, low, place.first_is)
 
 -- what a taken page changes

@@ -126,6 +126,23 @@ fifteen_once p n =
     let is = down p n 0 15 (omega arith) in
     (is.0, λ some. (let at = is.1 some in (omega (arith, at.0), omega (arith, at.1))))
 
+down_has : (p n a c : ℕ) → a + c ≤ 15 → n + a ≤ p + 15 → p + 15 < n + (a + c) → 0 < times n (map (λ (i : ℕ). p + 15 - i) (numbers_from a c))
+down_has p n a zero few low high = absurd (omega (arith, low, high))
+down_has p n a (suc c) few low high =
+    let tail = map (λ (i : ℕ). p + 15 - i) (numbers_from (a + 1) c) in
+    ⊎_elim
+    (λ (e : n ≡ p + 15 - a). let at = here n (p + 15 - a) tail e in omega (arith, at))
+    (λ (e : n ≢ p + 15 - a).
+    let at = there n (p + 15 - a) tail e in
+    let under : n + a ≢ p + 15 = λ (same : n + a ≡ p + 15). e (omega (arith, same)) in
+    let rest = down_has p n (a + 1) c (omega (arith, few)) (omega (arith, low, under)) (omega (arith, high)) in
+    omega (arith, at, rest))
+    (same_or_not n (p + 15 - a))
+
+-- each of the fifteen pages behind one is among them
+pub fifteen_has : (p n : ℕ) → p < n → n ≤ p + 15 → 0 < times n (fifteen p)
+fifteen_has p n low high = down_has p n 0 15 (omega arith) (omega (arith, high)) (omega (arith, low))
+
 -- sixteen pages are added, and the first is taken
 pub takes_new : (usable number : ℕ) (old new : Paging) (before : List FreeChain) (own : FreeChain) (after : List FreeChain) (listed : List ℕ)
     → AreLists usable old (before ++ own ∷ after) listed → Beside old new own.first listed → number ≡ number_in old → number_in new ≡ number + 16 → 480 ≤ usable

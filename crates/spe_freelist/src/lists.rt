@@ -1,11 +1,12 @@
 //! Pages handed out from one of several free lists, and taken back.
 
-ghost use Rattle.std.specs.Prelude.{◌≡◌, ◌⊎◌, ◌+◌, ◌<◌, ◌≢◌, ℕ, None, false, IfErr, IfOk, IsSome, IsTrue, OnErr, OnOk};
+ghost use Rattle.std.specs.Prelude.{◌≡◌, ◌⊎◌, ◌+◌, ◌<◌, ◌≢◌, ℕ, false, IfErr, IfOk, IsSome, IsTrue, OnErr, OnOk};
 ghost use Rattle.spe_model.specs.FreeList.{leaf_count};
 ghost use Rattle.spe_model.specs.Paging.{Agrees, Paging};
 ghost use Rattle.spe_space.specs.Calls.{Keeps, RefusesTree, sight};
 ghost use Rattle.spe_space.specs.declared.fault.SpaceFault.TheVariants.{Memory};
 ghost use Rattle.spe_space.specs.Free.{DifferAt};
+ghost use Rattle.spe_space.specs.Front.{number_in};
 ghost use Rattle.spe_space.specs.Outcome.{IsFull};
 ghost use Rattle.spe_space.specs.Space.{FrontStays};
 ghost use Rattle.spe_freelist.specs.Lists.{freed};
@@ -27,7 +28,6 @@ use std::alloc::Global;
 /// leaves than a page has room for, or whose last leaf is page 0. Full comes only where the list has
 /// neither a leaf nor a second trunk. (This project's own.)
 pub fn alloc<S: Pages>(alloc: Global, space: &mut S, first: u32) -> Result<u32, TreeFault>
-    requires { S.Pages.refusal space.old ≡ None }
     ensures taken { IfOk result (λ page. WhereListed S.Pages space.old space.new first (λ pages place.
         TakesPage S.Pages space.old space.new pages first page place)) }
     ensures stay { OnErr result (WhereListed S.Pages space.old space.new first (λ pages place.
@@ -55,6 +55,10 @@ pub fn alloc<S: Pages>(alloc: Global, space: &mut S, first: u32) -> Result<u32, 
     ensures alone { S.Pages.shared space.old ≡ false
         → ((S.Pages.count space.new ≡ S.Pages.count space.old) ⊎ (S.Pages.count space.new ≡ S.Pages.count space.old + 16))
         × (S.Pages.shared space.new ≡ false) }
+    ensures named { S.Pages.shared space.old ≡ false → WhereListed S.Pages space.old space.new first (λ pages place.
+        number_in (sight S.Pages space.new pages) ≡ S.Pages.count space.new) }
+    ensures counted { S.Pages.shared space.old ≡ false → (pages : Paging) → Agrees pages (S.Pages.seen space.new)
+        → HasNone (sight S.Pages space.old pages) first ⊎ (S.Pages.count space.new ≡ S.Pages.count space.old) }
     ensures open { OnOk result (S.Pages.sealed space.old ≡ false) }
     ensures admitted { IfErr result (OnFault (λ fault. (fault ≡ Memory) ⊎ IsTrue (S.Pages.admits fault)) (λ at. Unit {0})) }
     ensures refusal { RefusesTree S.Pages space.old space.new result }
@@ -70,7 +74,6 @@ pub fn alloc<S: Pages>(alloc: Global, space: &mut S, first: u32) -> Result<u32, 
 /// once, with zeros behind its leaves. Corrupt names the first trunk, where it has more leaves than a page
 /// has room for. (This project's own.)
 pub fn free<S: Pages>(alloc: Global, space: &mut S, first: u32, page: u32) -> Result<(), TreeFault>
-    requires { S.Pages.refusal space.old ≡ None }
     ensures freed { OnOk result (WhereListed S.Pages space.old space.new first (λ pages place.
         MayBeGiven S.Pages space.old pages first page place
         → LeavesLists S.Pages space.old space.new pages first place

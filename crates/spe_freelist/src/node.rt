@@ -1,6 +1,6 @@
 //! The node page.
 
-ghost use Rattle.std.specs.Prelude.{◌≡◌, ◌≢◌, ◌+◌, ◌*◌, ◌≤◌, ℕ, None, length, IfErr, IfOk};
+ghost use Rattle.std.specs.Prelude.{◌≡◌, ◌≢◌, ◌+◌, ◌*◌, ◌≤◌, ℕ, length, IfErr, IfOk};
 ghost use Rattle.spe_space.specs.Calls.{Reads, RefusesTree};
 ghost use Rattle.spe_space.specs.Found.{OnMissing};
 ghost use Rattle.spe_freelist.specs.Node.{firsts, IsNamed, ReadsNode};
@@ -44,7 +44,6 @@ fn node_in(alloc: Global, page: &[u8]) -> Result<Option<Trunks>, AllocError>
 /// other page is asked for, and this one once. (This project's own: the number of lists in four bytes, and then as many first
 /// trunks, each in four.)
 pub fn read_node<S: Pages>(alloc: Global, space: &mut S, node: u32) -> Result<Trunks, TreeFault>
-    requires { S.Pages.refusal space.old ≡ None }
     ensures found { ReadsNode S.Pages space.old space.new node result }
     ensures only { (n : ℕ) → n ≢ node → S.Pages.seen space.new n ≡ S.Pages.seen space.old n }
     ensures page_out { IfErr result (OnMissing (λ at. at ≡ node)) }

@@ -7,8 +7,9 @@ ghost use Rattle.spe_model.specs.Paging.{Agrees, Paging};
 ghost use Rattle.spe_space.specs.Calls.{Keeps, RefusesTree, sight};
 ghost use Rattle.spe_space.specs.Free.{DifferAt};
 ghost use Rattle.spe_space.specs.declared.fault.SpaceFault.TheVariants.{Memory};
+ghost use Rattle.spe_space.specs.Front.{number_in};
 ghost use Rattle.spe_space.specs.Outcome.{Fits, FitsGet, FitsPut};
-ghost use Rattle.spe_freelist.specs.Steps.{Grows, GrowsNot, IsDamaged, IsTrunkOf, LeavesAlone, OnFault, PutsTrunk, TakesNot, Took};
+ghost use Rattle.spe_freelist.specs.Steps.{Grows, GrowsNot, HasNone, IsDamaged, IsTrunkOf, LeavesAlone, OnFault, PutsTrunk, TakesNot, Took};
 ghost use Rattle.spe_freelist.specs.Trunk.{leaves_at, most_leaves};
 
 use crate::step::{lay_trunk, see_trunk};
@@ -118,6 +119,8 @@ fn take_new<S: Pages>(space: &mut S, first: u32, page: &mut [u8]) -> Result<u32,
     ensures alone { S.Pages.shared space.old ≡ false
         → ((S.Pages.count space.new ≡ S.Pages.count space.old) ⊎ (S.Pages.count space.new ≡ S.Pages.count space.old + 16))
         × (S.Pages.shared space.new ≡ false) }
+    ensures named { S.Pages.shared space.old ≡ false → first ≢ 1 → (pages : Paging) → Agrees pages (S.Pages.seen space.new)
+        → S.Pages.stands space.old pages → number_in (sight S.Pages space.new pages) ≡ S.Pages.count space.new }
     ensures refusal { RefusesTree S.Pages space.old space.new result }
     ensures open { OnOk result (S.Pages.sealed space.old ≡ false) }
     ensures fault { IfErr result (OnFault
@@ -152,6 +155,10 @@ pub(crate) fn take<S: Pages>(alloc: Global, space: &mut S, first: u32) -> Result
     ensures alone { S.Pages.shared space.old ≡ false
         → ((S.Pages.count space.new ≡ S.Pages.count space.old) ⊎ (S.Pages.count space.new ≡ S.Pages.count space.old + 16))
         × (S.Pages.shared space.new ≡ false) }
+    ensures named { S.Pages.shared space.old ≡ false → first ≢ 1 → (pages : Paging) → Agrees pages (S.Pages.seen space.new)
+        → S.Pages.stands space.old pages → number_in (sight S.Pages space.new pages) ≡ S.Pages.count space.new }
+    ensures counted { S.Pages.shared space.old ≡ false → (pages : Paging) → Agrees pages (S.Pages.seen space.new)
+        → HasNone (sight S.Pages space.old pages) first ⊎ (S.Pages.count space.new ≡ S.Pages.count space.old) }
     ensures refusal { RefusesTree S.Pages space.old space.new result }
     ensures open { OnOk result (S.Pages.sealed space.old ≡ false) }
     ensures fault { IfErr result (OnFault (TakesNot S.Pages space.old space.new first)

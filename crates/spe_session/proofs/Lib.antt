@@ -1,3 +1,6 @@
 pub mod PageLemmas
 pub mod OrderLemmas
 pub mod StandLemmas
+pub mod FreeLemmas
+pub mod AllocLemmas
+pub mod AnswerLemmas

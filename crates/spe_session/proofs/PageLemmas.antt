@@ -1,9 +1,10 @@
 -- What a pager shows of its pages.
-use Rattle.std.proofs.Common.{◌≡◌, ◌≢◌, ◌≤◌, ◌∙◌, ℕ, List, [], ◌∷◌, length, All, Option, Some, None, Result, Ok, Err, OnOk, refl, sym, ap, subst, arith, ⊎_elim, unwrap_or, option_to_list}
+use Rattle.std.proofs.Common.{inl, inr, ◌≡◌, ◌≢◌, ◌≤◌, ◌∙◌, ℕ, List, [], ◌∷◌, length, All, Option, Some, None, Result, Ok, Err, OnOk, refl, sym, ap, subst, arith, ⊎_elim, unwrap_or, option_to_list}
 use Rattle.std.specs.Prelude.{IfSome, ◌&&◌, nat_lt, nat_le, Bool}
 use Rattle.std.proofs.lemmas.Bool.{cases_eq, le-leb, le-ltb}
 use Rattle.std.proofs.lemmas.List.Elements.{All-cons, All-head, All-nil}
 use Rattle.spe_model.specs.Paging.{Given, PageMap, Paging}
+use Rattle.spe_space.specs.Free.{DifferAt}
 use Rattle.spe_session.specs.Below.{IsBelow}
 use Rattle.spe_session.specs.Pages.{AreSized, IsShown, KeepsSeen, ReadsOne, Sets, bytes_at, first_of, laid_in, laid_of, or_else}
 
@@ -75,3 +76,16 @@ laid_other base pages size page bytes old new sets n other = ap (λ (o : Option 
 pub laid_before : (base pages more size : ℕ) (dirty : List (ℕ × List ℕ)) (n : ℕ) → n ≤ pages → pages ≤ more → laid_in base more size dirty n ≡ laid_in base pages size dirty n
 laid_before base pages more size dirty n low high =
     ap (λ (b : Bool). laid_of (bytes_at dirty n) (nat_lt base n && b) size) (le-leb n more (omega (arith, low, high)) ∙ sym (le-leb n pages low))
+
+-- a fault was kept, and nothing else is new
+pub laid_alike : (base base' pages pages' size size' : ℕ) (dirty dirty' : List (ℕ × List ℕ)) → base' ≡ base → pages' ≡ pages → size' ≡ size → dirty' ≡ dirty
+    → (n : ℕ) → laid_in base' pages' size' dirty' n ≡ laid_in base pages size dirty n
+laid_alike base base' pages pages' size size' dirty dirty' a b c d n =
+    ap (λ (k : ℕ). laid_in k pages' size' dirty' n) a ∙ ap (λ (k : ℕ). laid_in base k size' dirty' n) b
+    ∙ ap (λ (k : ℕ). laid_in base pages k dirty' n) c ∙ ap (λ (es : List (ℕ × List ℕ)). laid_in base pages size es n) d
+
+pub differ_same : {X : Type 0} (old mid new : ℕ → X) (P : ℕ → Type 0) → ((n : ℕ) → new n ≡ mid n) → DifferAt old mid P → DifferAt old new P
+differ_same old mid new P same differ n = ⊎_elim
+    (λ (is : mid n ≡ old n). inl (same n ∙ is))
+    (λ (is : P n). inr is)
+    (differ n)

@@ -7,6 +7,7 @@
 mod beginning;
 mod fetch;
 mod page_set;
+mod page_space;
 mod pager;
 mod paging;
 mod put;

@@ -1,7 +1,8 @@
+use Rattle.std.proofs.Common.{◌≡◌, arith}
 use Rattle.spe_model.specs.Paging.{Agrees, Paging}
 use Rattle.spe_space.specs.Calls.{sight}
 use Rattle.spe_freelist.specs.Steps.{IsDamaged}
-use Rattle.spe_freelist.proofs.LaidLemmas.{front_of, full_of, laid_of}
+use Rattle.spe_freelist.proofs.LaidLemmas.{first_low, front_of, full_of, laid_of}
 use Rattle.spe_freelist.proofs.LikelyLemmas.{likely_take}
 use Rattle.spe_freelist.proofs.PlaceLemmas.{stay_of, taken_of}
 use Rattle.spe_freelist.proofs.StepLemmas.{few_pages}
@@ -37,3 +38,8 @@ returns-clause-full g c =
     full_of g.S.Pages c.args.space.now c.take.new.space c.args.first c.take.result
     (λ at. (pages : Paging) → Agrees pages (g.S.Pages.seen c.take.new.space) → IsDamaged (g.S.Pages.used c.args.space.now) (sight g.S.Pages c.args.space.now pages) c.args.first at)
     c.take.ensures.fault
+
+pub returns-clause-named : goal.returns-clause-named
+returns-clause-named g c = λ alone pages agrees stands place.
+    let low = first_low g.S.Pages c.args.space.now pages c.args.first place in
+    c.take.ensures.named alone (λ (e : c.args.first ≡ 1). absurd (omega (arith, e, low))) pages agrees stands
