@@ -1,3 +1,4 @@
+pub mod EventLemmas
 pub mod PageLemmas
 pub mod OrderLemmas
 pub mod StandLemmas
