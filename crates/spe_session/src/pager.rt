@@ -9,7 +9,7 @@ ghost use Rattle.spe_store.specs.Event.{entries_in, seen_in};
 ghost use Rattle.spe_store.specs.Event.Event.{Begun};
 ghost use Rattle.spe_session.specs.Alone.{IsAlone, IsReading};
 ghost use Rattle.spe_session.specs.Below.{IsBelow, IsUnwritten, below_of};
-ghost use Rattle.spe_session.specs.Pages.{AreSized, AreUpTo, IsShown, KeepsSeen, bytes_at, laid_in};
+ghost use Rattle.spe_session.specs.Pages.{AreSized, AreUpTo, IsShown, KeepsSeen, are_numbered, bytes_at, front_read, front_shown, laid_in};
 
 use crate::beginning::Beginning;
 use crate::page_set::PageSet;
@@ -66,6 +66,9 @@ pub struct Pager<D: Disk, N: Opening, K: Beginning> {
     // What was put is one of the pages, and one page long.
     ghost dirty_sized: { AreSized size dirty },
     ghost placed: { AreUpTo pages dirty },
+    // Page 1 shows the front with which it was read, and was put where pages were added; and there is no page 0.
+    ghost fronted: { front_shown dirty clean ≡ front_read clean },
+    ghost numbered: { are_numbered store.count pages dirty ≡ true },
     // There are as many pages as after all commits, or more, and no more than there may be.
     ghost some: { 1 ≤ store.count },
     ghost more: { store.count ≤ pages },
