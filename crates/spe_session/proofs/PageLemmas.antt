@@ -6,7 +6,7 @@ use Rattle.std.proofs.lemmas.List.Elements.{All-cons, All-head, All-nil}
 use Rattle.spe_model.specs.Paging.{Given, PageMap, Paging}
 use Rattle.spe_space.specs.Free.{DifferAt}
 use Rattle.spe_session.specs.Below.{IsBelow}
-use Rattle.spe_session.specs.Pages.{AreSized, IsShown, KeepsSeen, ReadsOne, Sets, bytes_at, first_of, laid_in, laid_of, or_else}
+use Rattle.spe_session.specs.Pages.{AreSized, AreUpTo, IsShown, KeepsSeen, ReadsOne, Sets, bytes_at, first_of, laid_in, laid_of, or_else}
 
 pub laid_none : (base pages size : ℕ) (dirty : List (ℕ × List ℕ)) (n : ℕ) → bytes_at dirty n ≡ None → n ≤ base → laid_in base pages size dirty n ≡ None
 laid_none base pages size dirty n none low = rw (none, le-ltb base n low) refl
@@ -89,3 +89,23 @@ differ_same old mid new P same differ n = ⊎_elim
     (λ (is : mid n ≡ old n). inl (same n ∙ is))
     (λ (is : P n). inr is)
     (differ n)
+
+-- pages after one was put
+pub sized_put : (size page : ℕ) (bytes : List ℕ) (old new : List (ℕ × List ℕ)) → AreSized size old → Sets page (Some bytes) old new → length bytes ≡ size → AreSized size new
+sized_put size page bytes old new sized sets long n own there = ⊎_elim
+    (λ (e : n ≡ page). let same : Some bytes ≡ Some own = sym sets.here ∙ sym (ap (bytes_at new) e) ∙ there in let is : bytes ≡ own = cc in ap length (sym is) ∙ long)
+    (λ (other : n ≢ page). sized n own (sym (sets.other n other) ∙ there))
+    (cases_eq n page)
+
+pub placed_put : (pages more page : ℕ) (bytes : List ℕ) (old new : List (ℕ × List ℕ)) → AreUpTo pages old → Sets page (Some bytes) old new → page ≤ more → pages ≤ more → AreUpTo more new
+placed_put pages more page bytes old new placed sets within few n own there = ⊎_elim
+    (λ (e : n ≡ page). omega (arith, e, within))
+    (λ (other : n ≢ page). omega (arith, placed n own (sym (sets.other n other) ∙ there), few))
+    (cases_eq n page)
+
+-- room for a page was taken and is gone again
+pub gone_same : (page : ℕ) (room : List ℕ) (a b c : List (ℕ × List ℕ)) → bytes_at a page ≡ None → Sets page (Some room) a b → Sets page None b c → (n : ℕ) → bytes_at c n ≡ bytes_at a n
+gone_same page room a b c fresh first second n = ⊎_elim
+    (λ (e : n ≡ page). ap (bytes_at c) e ∙ second.here ∙ sym fresh ∙ sym (ap (bytes_at a) e))
+    (λ (other : n ≢ page). second.other n other ∙ first.other n other)
+    (cases_eq n page)

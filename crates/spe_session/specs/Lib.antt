@@ -1,4 +1,6 @@
 pub mod Pages
+pub mod Alone
 pub mod Below
+pub mod Ending
 pub mod Lists
 pub mod Facts

@@ -1,8 +1,9 @@
 -- Pages with their bytes, and what a pager shows of them.
-use Rattle.std.specs.Prelude.{◌≡◌, ◌≢◌, ◌≤◌, ℕ, ◌&&◌, nat_lt, nat_le, Bool, List, [], ◌∷◌, length, replicate, Option, Some, None, option_to_list, if◌then◌else◌}
+use Rattle.std.specs.Prelude.{◌≡◌, ◌≢◌, ◌≤◌, ℕ, ◌&&◌, nat_lt, nat_le, Bool, List, [], ◌∷◌, ◌<◌, length, replicate, take, Option, Some, None, option_to_list, is_some, true, not, ◌||◌, if◌then◌else◌}
 use Rattle.std.specs.Borrow.{Bor}
 use Rattle.std.specs.BTreeMap.{is_at}
 use Rattle.std.specs.Map.{lookup}
+use Rattle.std.specs.Option.{option_map}
 use Rattle.std.specs.Ordering.{nat_cmp}
 use Rattle.spe_model.specs.Paging.{Agrees, Given, PageMap, Paging, lay}
 
@@ -61,3 +62,24 @@ or_else None other = other
 -- the bytes of page 1, where it was put, or else where it was read
 abbrev pub first_of : (dirty clean : List (ℕ × List ℕ)) → Option (List ℕ)
 first_of dirty clean = or_else (bytes_at dirty 1) (bytes_at clean 1)
+
+-- the first 24 bytes of page 1 as it was read, and as it is shown
+unfoldable pub front_read : (clean : List (ℕ × List ℕ)) → Option (List ℕ)
+front_read clean = option_map (take 24) (bytes_at clean 1)
+
+unfoldable pub front_shown : (dirty clean : List (ℕ × List ℕ)) → Option (List ℕ)
+front_shown dirty clean = option_map (take 24) (first_of dirty clean)
+
+-- bytes have the first 24 bytes of page 1 as it was read
+abbrev pub HasFrontOf : (clean : List (ℕ × List ℕ)) (bytes : List ℕ) → Type 0
+HasFrontOf clean bytes = front_read clean ≡ Some (take 24 bytes)
+
+-- there is no page 0, and page 1 was put where pages were added
+unfoldable pub are_numbered : (base pages : ℕ) (dirty : List (ℕ × List ℕ)) → Bool
+are_numbered base pages dirty = not (is_some (bytes_at dirty 0)) && (nat_le pages base || is_some (bytes_at dirty 1))
+
+-- the first page from a number on that is kept, with its bytes, or none is
+abbrev pub IsFirstFrom : (from : ℕ) → List (ℕ × List ℕ) → Option (ℕ × Bor (List ℕ)) → Type 0
+IsFirstFrom from entries None = (n : ℕ) → from ≤ n → bytes_at entries n ≡ None
+IsFirstFrom from entries (Some first) =
+    (from ≤ first.0) × (bytes_at entries first.0 ≡ Some first.1.now) × ((n : ℕ) → from ≤ n → n < first.0 → bytes_at entries n ≡ None)

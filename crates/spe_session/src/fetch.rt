@@ -6,6 +6,7 @@ ghost use Rattle.spe_space.specs.declared.fault.SpaceFault.TheVariants.{Read};
 ghost use Rattle.spe_space.specs.Outcome.{IsInside};
 ghost use Rattle.spe_store.specs.Call.{IsTied};
 ghost use Rattle.spe_store.specs.Event.{seen_in};
+ghost use Rattle.spe_session.specs.Alone.{IsAlone, IsReading};
 ghost use Rattle.spe_session.specs.Below.{IsUnwritten, StaysBelow, below_of, space_fault};
 ghost use Rattle.spe_session.specs.Pages.{ReadsOne};
 
@@ -38,6 +39,8 @@ pub(crate) fn read_once<D: Disk, N: Opening>(
     requires tied { IsTied store.old pass.old }
     requires going { store.old.desk.stopped ≡ None }
     requires unwritten { IsUnwritten store.old.events }
+    requires alone { IsAlone store.old.events pass.old.id }
+    requires reading { IsReading store.old.events pass.old.id }
     requires fresh { seen_in pass.old.done pass.old.id page ≡ [] }
     ensures read { OnOk result (ReadsOne page buf.new (seen_in pass.old.done pass.old.id) (seen_in pass.new.done pass.new.id)) }
     ensures gives { OnOk result (IfSome (below_of N.opened store.old) (λ pages. pages page ≡ buf.new)) }
@@ -49,6 +52,8 @@ pub(crate) fn read_once<D: Disk, N: Opening>(
     ensures len { length buf.new ≡ length buf.old }
     ensures tied { IsTied store.new pass.new }
     ensures unwritten { IsUnwritten store.new.events }
+    ensures alone { IsAlone store.new.events pass.new.id }
+    ensures reading { IsReading store.new.events pass.new.id }
 {
     match store.read(pass, page, buf) {
         Ok(()) => Ok(()),

@@ -4,8 +4,10 @@
 //! what is put until the transaction ends.
 #![tactic(auto)]
 
+mod alone;
 mod beginning;
 mod fetch;
+mod leaving;
 mod page_set;
 mod page_space;
 mod pager;
@@ -13,5 +15,7 @@ mod paging;
 mod put;
 mod show;
 
+pub use alone::alone_law;
 pub use beginning::Beginning;
+pub use leaving::Left;
 pub use pager::{Pager, Parts};

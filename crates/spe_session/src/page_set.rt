@@ -21,7 +21,7 @@ impl Model for PageSet {
 
 impl PageSet {
     ghost use Rattle.std.specs.Prelude.{◌≡◌, [], Some, None, IsSome, OnOk, OnErr};
-    ghost use Rattle.spe_session.specs.Pages.{IsLent, Sets, bytes_at};
+    ghost use Rattle.spe_session.specs.Pages.{IsFirstFrom, IsLent, Sets, bytes_at};
 
     /// No pages.
     pub(crate) fn none(alloc: Global) -> PageSet
@@ -38,6 +38,16 @@ impl PageSet {
     {
         match self.map.get(&page) {
             Some(bytes) => Some(bytes.as_slice()),
+            None => None,
+        }
+    }
+
+    /// The first page from a number on that is kept, with its bytes.
+    pub(crate) fn first_from(&self, page: u32) -> Option<(u32, &[u8])>
+        ensures { IsFirstFrom page self.now result }
+    {
+        match self.map.range(page..).next() {
+            Some((page, bytes)) => Some((*page, bytes.as_slice())),
             None => None,
         }
     }

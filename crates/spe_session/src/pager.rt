@@ -7,8 +7,9 @@ ghost use Rattle.spe_space.specs.Outcome.{IsInside, refusal_of};
 ghost use Rattle.spe_store.specs.Call.{IsTied};
 ghost use Rattle.spe_store.specs.Event.{entries_in, seen_in};
 ghost use Rattle.spe_store.specs.Event.Event.{Begun};
+ghost use Rattle.spe_session.specs.Alone.{IsAlone, IsReading};
 ghost use Rattle.spe_session.specs.Below.{IsBelow, IsUnwritten, below_of};
-ghost use Rattle.spe_session.specs.Pages.{AreSized, AreUpTo, IsShown, KeepsSeen, bytes_at, laid_in};
+ghost use Rattle.spe_session.specs.Pages.{AreSized, AreUpTo, IsShown, KeepsSeen, are_numbered, bytes_at, front_read, front_shown, laid_in};
 
 use crate::beginning::Beginning;
 use crate::page_set::PageSet;
@@ -49,6 +50,9 @@ pub struct Pager<D: Disk, N: Opening, K: Beginning> {
     ghost going: { store.desk.stopped ≡ None },
     ghost tied: { IsTied store pass },
     ghost unwritten: { IsUnwritten store.events },
+    // No other transaction is at work, and this one has done nothing but read.
+    ghost alone: { IsAlone store.events pass.id },
+    ghost reading: { IsReading store.events pass.id },
     // It is the store that the transaction began on, with its files and commits, and the id and list are its own.
     ghost files: { store.desk.told ≡ K.begun.told },
     ghost commits: { entries_in store.events ≡ K.begun.entries },
@@ -62,6 +66,9 @@ pub struct Pager<D: Disk, N: Opening, K: Beginning> {
     // What was put is one of the pages, and one page long.
     ghost dirty_sized: { AreSized size dirty },
     ghost placed: { AreUpTo pages dirty },
+    // Page 1 shows the front with which it was read, and was put where pages were added; and there is no page 0.
+    ghost fronted: { front_shown dirty clean ≡ front_read clean },
+    ghost numbered: { are_numbered store.count pages dirty ≡ true },
     // There are as many pages as after all commits, or more, and no more than there may be.
     ghost some: { 1 ≤ store.count },
     ghost more: { store.count ≤ pages },
@@ -99,6 +106,8 @@ impl<D: Disk, N: Opening, K: Beginning> Pager<D, N, K> {
         requires id { pass.id ≡ K.begun.id }
         requires own { first ≡ K.begun.first }
         requires unwritten { IsUnwritten store.events }
+        requires alone { IsAlone store.events pass.id }
+        requires reading { IsReading store.events pass.id }
         ensures size { ⟦<Pager<D, N, K> as Pages>⟧.size result ≡ found.now.page_size }
         ensures usable { ⟦<Pager<D, N, K> as Pages>⟧.used result ≡ found.now.page_size - found.now.reserved }
         ensures count { ⟦<Pager<D, N, K> as Pages>⟧.count result ≡ store.count }
@@ -132,10 +141,13 @@ impl<D: Disk, N: Opening, K: Beginning> Pager<D, N, K> {
         ensures files { result.store.desk.told ≡ K.begun.told }
         ensures commits { entries_in result.store.events ≡ K.begun.entries }
         ensures counted { result.store.count ≡ K.begun.count }
+        ensures sized { result.store.page_size ≡ ⟦<Pager<D, N, K> as Pages>⟧.size self }
         ensures id { result.pass.id ≡ K.begun.id }
         ensures going { result.store.desk.stopped ≡ None }
         ensures tied { IsTied result.store result.pass }
         ensures unwritten { IsUnwritten result.store.events }
+        ensures alone { IsAlone result.store.events result.pass.id }
+        ensures reading { IsReading result.store.events result.pass.id }
     {
         let Pager { store, pass, .. } = self;
         Parts { store, pass }

@@ -7,7 +7,7 @@ ghost use Rattle.spe_space.specs.Front.{KeepsFront, SpoilsFront, recounted};
 ghost use Rattle.spe_space.specs.Outcome.{IsInside};
 ghost use Rattle.spe_store.specs.Event.{seen_in};
 ghost use Rattle.spe_session.specs.Below.{below_of};
-ghost use Rattle.spe_session.specs.Pages.{IsLent, Sets, bytes_at, first_of, laid_in};
+ghost use Rattle.spe_session.specs.Pages.{HasFrontOf, IsLent, Sets, bytes_at, first_of, laid_in};
 
 use crate::beginning::Beginning;
 use crate::pager::Pager;
@@ -43,6 +43,7 @@ fn has_header(bytes: &[u8]) -> bool
 pub(crate) fn recounted(front: Vec<u8>, pages: u32) -> Bytes
     requires { 96 ≤ length front.items }
     ensures bytes { result ≡ recounted pages front.items }
+    ensures front { take 24 result ≡ take 24 front.items }
     ensures len { length result ≡ length front.items }
 {
     let mut front = front;
@@ -65,6 +66,7 @@ impl<D: Disk, N: Opening, K: Beginning> Pager<D, N, K> {
     fn may_be_first(&self, bytes: &[u8]) -> bool
         requires size { length bytes.now ≡ self.now.size }
         ensures legal { result ≡ true → header_of bytes.now ≡ Ok (fields bytes.now) }
+        ensures front { result ≡ true → HasFrontOf self.now.clean bytes.now }
         ensures spoils { result ≡ false → SpoilsFront (below_of N.opened self.now.store) (seen_in self.now.pass.done self.now.pass.id)
             (laid_in self.now.store.count self.now.pages self.now.size self.now.dirty) self.now.pages bytes.now }
     {
@@ -78,6 +80,7 @@ impl<D: Disk, N: Opening, K: Beginning> Pager<D, N, K> {
     pub(crate) fn may_be_put(&self, page: u32, bytes: &[u8]) -> bool
         requires size { length bytes.now ≡ self.now.size }
         ensures legal { result ≡ true → page ≡ 1 → header_of bytes.now ≡ Ok (fields bytes.now) }
+        ensures front { result ≡ true → page ≡ 1 → HasFrontOf self.now.clean bytes.now }
         ensures first { result ≡ false → page ≡ 1 }
         ensures spoils { result ≡ false → SpoilsFront (below_of N.opened self.now.store) (seen_in self.now.pass.done self.now.pass.id)
             (laid_in self.now.store.count self.now.pages self.now.size self.now.dirty) self.now.pages bytes.now }
@@ -89,6 +92,7 @@ impl<D: Disk, N: Opening, K: Beginning> Pager<D, N, K> {
     pub(crate) fn lay(&mut self, page: u32, bytes: &[u8]) -> Result<(), AllocError>
         requires inside { IsInside self.old.pages page }
         requires size { length bytes.now ≡ self.old.size }
+        requires front { page ≡ 1 → HasFrontOf self.old.clean bytes.now }
         ensures ok { OnOk result (Sets page (Some bytes.now) self.old.dirty self.new.dirty) }
         ensures err { OnErr result (self.new.dirty ≡ self.old.dirty) }
         ensures store { self.new.store ≡ self.old.store }
@@ -116,6 +120,7 @@ impl<D: Disk, N: Opening, K: Beginning> Pager<D, N, K> {
     pub(crate) fn grow(&mut self, front: Bytes) -> Result<(), AllocError>
         requires room { self.old.pages + 16 ≤ self.old.limit }
         requires size { length front ≡ self.old.size }
+        requires front { HasFrontOf self.old.clean front }
         ensures ok { OnOk result (Sets 1 (Some front) self.old.dirty self.new.dirty) }
         ensures more { OnOk result (self.new.pages ≡ self.old.pages + 16) }
         ensures err { OnErr result (self.new.dirty ≡ self.old.dirty) }

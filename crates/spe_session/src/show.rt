@@ -1,12 +1,12 @@
 //! A page is shown: as it was put, as it was read, or as it is below.
 
-ghost use Rattle.std.specs.Prelude.{◌≡◌, ◌≢◌, ◌≤◌, ◌⊎◌, ℕ, [], None, IfErr, IsSome, IsTrue, OnErr, OnOk, length, replicate, true, false};
+ghost use Rattle.std.specs.Prelude.{◌≡◌, ◌≢◌, ◌≤◌, ◌⊎◌, ℕ, [], None, IfErr, IsSome, Some, IsTrue, OnErr, OnOk, length, replicate, true, false};
 ghost use Rattle.spe_model.specs.Paging.{Agrees, Paging};
 ghost use Rattle.spe_space.specs.declared.fault.SpaceFault.TheVariants.{Memory, Read};
 ghost use Rattle.spe_space.specs.Outcome.{IsInside, refusal_after};
 ghost use Rattle.spe_store.specs.Event.{seen_in};
 ghost use Rattle.spe_session.specs.Below.{below_of};
-ghost use Rattle.spe_session.specs.Pages.{IsShown, ReadsOne, bytes_at, laid_in};
+ghost use Rattle.spe_session.specs.Pages.{HasFrontOf, IsShown, ReadsOne, bytes_at, laid_in};
 
 use crate::beginning::Beginning;
 use crate::fetch::read_once;
@@ -40,6 +40,7 @@ impl<D: Disk, N: Opening, K: Beginning> Pager<D, N, K> {
         requires size { length buf.old ≡ self.now.size }
         requires inside { IsInside self.now.pages page }
         ensures shown { result ≡ true → IsShown (seen_in self.now.pass.done self.now.pass.id) (laid_in self.now.store.count self.now.pages self.now.size self.now.dirty) page buf.new }
+        ensures front { result ≡ true → page ≡ 1 → HasFrontOf self.now.clean buf.new }
         ensures put { result ≡ false → bytes_at self.now.dirty page ≡ None }
         ensures read { result ≡ false → bytes_at self.now.clean page ≡ None }
         ensures below { result ≡ false → page ≤ self.now.store.count }
@@ -66,6 +67,7 @@ impl<D: Disk, N: Opening, K: Beginning> Pager<D, N, K> {
         requires inside { IsInside self.old.store.count page }
         requires fresh { bytes_at self.old.clean page ≡ None }
         ensures read { OnOk result (ReadsOne page buf.new (seen_in self.old.pass.done self.old.pass.id) (seen_in self.new.pass.done self.new.pass.id)) }
+        ensures kept { OnOk result (bytes_at self.new.clean page ≡ Some buf.new) }
         ensures err { OnErr result (seen_in self.new.pass.done self.new.pass.id ≡ seen_in self.old.pass.done self.old.pass.id) }
         ensures len { length buf.new ≡ length buf.old }
         ensures fault { IfErr result (λ fault. (fault ≡ Read) ⊎ (fault ≡ Memory)) }
@@ -97,6 +99,7 @@ impl<D: Disk, N: Opening, K: Beginning> Pager<D, N, K> {
         requires size { length buf.old ≡ self.old.size }
         requires inside { IsInside self.old.pages page }
         ensures shown { OnOk result (IsShown (seen_in self.new.pass.done self.new.pass.id) (laid_in self.old.store.count self.old.pages self.old.size self.old.dirty) page buf.new) }
+        ensures front { OnOk result (page ≡ 1 → HasFrontOf self.new.clean buf.new) }
         ensures earlier { (pages : Paging) → Agrees pages (seen_in self.new.pass.done self.new.pass.id) → Agrees pages (seen_in self.old.pass.done self.old.pass.id) }
         ensures only { (n : ℕ) → n ≢ page → seen_in self.new.pass.done self.new.pass.id n ≡ seen_in self.old.pass.done self.old.pass.id n }
         ensures known { IsSome (laid_in self.old.store.count self.old.pages self.old.size self.old.dirty page) → seen_in self.new.pass.done self.new.pass.id page ≡ seen_in self.old.pass.done self.old.pass.id page }

@@ -4,11 +4,12 @@ use Rattle.spe_model.specs.Trace.{History}
 use Rattle.spe_transactions.proofs.GrowthLemmas.{cuts_meet}
 use Rattle.spe_store.specs.declared.work.Work.{Work}
 use Rattle.spe_store.specs.Call.{CutsAreLeft, CutsAreServed, IsNow, KeepsCuts, KeepsPages}
-use Rattle.spe_store.specs.Event.{broken_in, entries_in}
+use Rattle.spe_store.specs.Event.{broken_in, entries_in, journalled_in, written_in}
 use Rattle.spe_store.specs.Opened.{Opened}
 use Rattle.spe_store.specs.Served.{AreKept, AreLeft, Entry, Says, commits_of}
 use Rattle.spe_store.specs.Store.{IfTold, IsHeld, IsServing, IsStored, Order, Store}
 use Rattle.spe_store.proofs.HeldLemmas.{goes}
+use Rattle.spe_store.proofs.ServedLemmas.{says_all}
 
 pub each_cut : (opened : Opened) (h : History) (es : List Entry) → AreKept opened h es → CutsAreServed opened h es
 each_cut opened h es k = record { covered = k.covered; each = λ cut is. cuts_meet (Says opened es) opened.pages h (commits_of es) cut k is }
@@ -36,4 +37,7 @@ module _ (opened : Opened) (s : Store) (works : List Work) (order : Order) (i : 
     where
       by_told : (told : Option History) → IfTold told (λ h. IsServing opened h s.events s.page_size s.count works) → IfTold told (IsNow opened s)
       by_told None v = tt
-      by_told (Some h) v = record { recovers = v.kept.work.recovers; counted = v.counted; seen = v.seen; unbroken = (goes opened s works order i going).unbroken }
+      by_told (Some h) v = record { recovers = v.kept.work.recovers; counted = v.counted; seen = v.seen; says = says_all opened (entries_in s.events) h (journalled_in s.events) (written_in s.events) v.kept; unbroken = (goes opened s works order i going).unbroken }
+
+  pub keeps_unbroken : s.desk.stopped ≡ None → broken_in s.events ≡ None
+  keeps_unbroken going = (goes opened s works order i going).unbroken

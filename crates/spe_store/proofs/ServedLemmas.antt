@@ -84,6 +84,14 @@ module _ (opened : Opened) (pages : List (List ℕ)) (written : PageMap) (page_s
         (right.left (length pages) a.paging db a.served agrees);
   }
 
+-- what is said of the pages after all entries
+pub says_all : (opened : Opened) (es : List Entry) (h : History) (journalled written : Works) → WorkKept (Says opened es) opened.pages h (commits_of es) journalled written
+    → Says opened es (length es) (pages_of opened es)
+says_all opened es h journalled written k =
+    subst (λ (ps : List (List ℕ)). Says opened es (length es) ps) (after_all opened.pages (commits_of es))
+    (subst (λ (n : ℕ). Says opened es n (pages_after opened.pages (commits_of es) (length (commits_of es)))) (commits_long es)
+    (k.stops.meets.each (length (commits_of es)) (omega arith)))
+
 -- what is said of the first entries stays so with one more
 module _ (opened : Opened) (es : List Entry) (e : Entry) where
   says_front : (n : ℕ) → n ≤ length (commits_of es) → (pages : List (List ℕ)) → Says opened es n pages → Says opened (es ++ e ∷ []) n pages

@@ -148,6 +148,7 @@ pub record IsNow (opened : Opened) (s : Store) (h : History) : Type 0 where
   pub recovers : Recovers (present h) (pages_in opened s.events)
   pub counted : s.count ≡ length (pages_in opened s.events)
   pub seen : (id : ℕ) → AreSeen (pages_in opened s.events) (seen_in s.events id)
+  pub says : Says opened (entries_in s.events) (length (entries_in s.events)) (pages_in opened s.events)
   pub unbroken : broken_in s.events ≡ None
 
 abbrev pub KeepsPages : Opened → Store → Type 0

@@ -161,11 +161,12 @@ impl<D: Disk, N: Opening> Store<D, N> {
     /// The disk is that of the opening, and its counts of faults have not fallen. At each cut of the trace so
     /// far the recovered pages are those after the commits within it, and these are served for what the
     /// commits leave, where the pages of the opening were. Until the store stops, what each transaction has
-    /// read is as after all commits.
+    /// read is as after all commits, and no cut of a commit has failed.
     pub fn keeps(&self)
         ensures disk { IsOf N.opened self.now.desk }
         ensures cuts { KeepsCuts N.opened self.now }
         ensures pages { KeepsPages N.opened self.now }
+        ensures unbroken { self.now.desk.stopped ≡ None → broken_in self.now.events ≡ None }
     {
         let _story = &self.story;
     }

@@ -6,7 +6,7 @@ ghost use Rattle.spe_model.specs.Settled.{IsWithinLimits};
 
 use super::disk::Counted;
 use spe_model::Recovered;
-use spe_session::{Beginning, Pager};
+use spe_session::{Beginning, Pager, alone_law};
 use spe_store::{Opening, SessionSeat, Store};
 use std::alloc::{AllocError, Global};
 
@@ -75,6 +75,7 @@ pub fn begun(alloc: Global, disk: Counted) -> Result<Pager<Counted, Three, First
     let mut session = SessionSeat { number: 1, told: 0 };
     let mut store = opened(alloc, disk)?;
     store.keeps();
+    alone_law();
     let Ok(pass) = store.take_pass(&mut session) else {
         return Err(AllocError);
     };

@@ -1,7 +1,10 @@
-use Rattle.std.proofs.Common.{◌≡◌, ◌∙◌, ap, length}
+use Rattle.std.proofs.Common.{◌≡◌, ◌∙◌, ℕ, List, Option, option_to_list, ap, sym, subst, length}
 use Rattle.spe_store.specs.Event.{seen_in}
-use Rattle.spe_session.specs.Below.{below_of}
-use Rattle.spe_session.proofs.PageLemmas.{below_kept, seen_kept, sized_kept}
+use Rattle.spe_store.specs.Pass.{Pass}
+use Rattle.spe_model.specs.Paging.{Paging}
+use Rattle.spe_session.specs.Below.{IsBelow, below_of}
+use Rattle.spe_session.proofs.FrontLemmas.{read_front}
+use Rattle.spe_session.proofs.PageLemmas.{below_kept, gone_same, seen_kept, sized_kept}
 use Rattle.spe_session.proofs.pager.Pager.read_below.Goals as goal
 
 pub invariant_of-self-in-Ok-clause-seen : goal.invariant_of-self-in-Ok-clause-seen
@@ -21,3 +24,29 @@ invariant_of-self-in-Ok-clause-clean_sized g c =
     let copied : c.filled.result ≡ c.read_once.new.buf = c.filled.ensures in
     let long : length c.filled.result ≡ s.size = ap length copied ∙ c.in-Ok.ensures.len ∙ c.requires.size in
     sized_kept s.size c.args.page _ _ s.clean c.put.new.self c.set.new.self s.clean_sized c.in_ok-put.ensures.ok c.set.ensures long
+
+pub invariant_of-self-in-Ok-clause-fronted : goal.invariant_of-self-in-Ok-clause-fronted
+invariant_of-self-in-Ok-clause-fronted g c =
+    let s = c.args.self.now in
+    read_front c.args.page _ _ s.dirty s.clean _ c.set.new.self s.fronted c.requires.fresh c.in_ok-put.ensures.ok c.set.ensures
+
+pub invariant_of-self-in-Err-clause-fronted : goal.invariant_of-self-in-Err-clause-fronted
+invariant_of-self-in-Err-clause-fronted g c =
+    let s = c.args.self.now in
+    read_front c.args.page _ _ s.dirty s.clean _ c.remove.new.self s.fronted c.requires.fresh c.in_ok-put.ensures.ok c.remove.ensures
+
+pub invariant_of-self-in-Err-clause-seen : goal.invariant_of-self-in-Err-clause-seen
+invariant_of-self-in-Err-clause-seen g c = λ n.
+    let s = c.args.self.now in
+    ap (λ (p : Pass). seen_in p.done p.id n) c.in-Err.ensures.err ∙ s.seen n ∙ sym (ap option_to_list (gone_same c.args.page _ s.clean _ c.remove.new.self c.requires.fresh c.in_ok-put.ensures.ok c.remove.ensures n))
+
+pub invariant_of-self-in-Err-clause-below : goal.invariant_of-self-in-Err-clause-below
+invariant_of-self-in-Err-clause-below g c =
+    let s = c.args.self.now in
+    subst (λ (o : Option Paging). IsBelow o (seen_in c.read_once.new.pass.done c.read_once.new.pass.id)) (sym c.in-Err.ensures.below.told)
+    (subst (λ (p : Pass). IsBelow (below_of g.N.Opening.opened s.store) (seen_in p.done p.id)) (sym c.in-Err.ensures.err) s.below)
+
+pub invariant_of-self-in-Err-clause-clean_sized : goal.invariant_of-self-in-Err-clause-clean_sized
+invariant_of-self-in-Err-clause-clean_sized g c = λ n bytes there.
+    let s = c.args.self.now in
+    s.clean_sized n bytes (sym (gone_same c.args.page _ s.clean _ c.remove.new.self c.requires.fresh c.in_ok-put.ensures.ok c.remove.ensures n) ∙ there)
