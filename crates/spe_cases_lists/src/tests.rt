@@ -1,5 +1,6 @@
 mod bytes;
 mod files;
+mod full;
 mod prepare;
 mod read;
 mod release;

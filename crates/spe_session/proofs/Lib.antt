@@ -6,3 +6,6 @@ pub mod StandLemmas
 pub mod FreeLemmas
 pub mod AllocLemmas
 pub mod AnswerLemmas
+pub mod ListLemmas
+pub mod StartLemmas
+pub mod CarriedLemmas

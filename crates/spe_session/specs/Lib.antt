@@ -4,3 +4,5 @@ pub mod Below
 pub mod Ending
 pub mod Lists
 pub mod Facts
+pub mod Carried
+pub mod Front

@@ -6,7 +6,9 @@
 
 mod alone;
 mod beginning;
+mod carrying;
 mod fetch;
+mod front;
 mod leaving;
 mod page_set;
 mod page_space;
@@ -17,5 +19,6 @@ mod show;
 
 pub use alone::alone_law;
 pub use beginning::Beginning;
+pub use carrying::carry_out;
 pub use leaving::Left;
 pub use pager::{Pager, Parts};
