@@ -7,13 +7,16 @@
 
 mod below;
 mod cell;
+mod child;
 mod leaf;
+mod leaf_end;
 mod merge;
 mod root;
 mod row;
 
 pub use cell::free_cell;
 pub use leaf::drop_cell;
+pub use leaf_end::drop_leaf;
 pub use merge::merge_pages;
 pub use root::lower_root;
 pub use row::take_row;
