@@ -1,8 +1,9 @@
-//! The lower steps of taking a row out of a table's tree.
+//! Taking a row out of a table's tree, and the lower steps of it.
 //!
-//! A leaf that has the row is put without its cell, and then the pages of its chain are made free. Two
-//! neighbours whose cells fit one page become that page. A root whose only child is left takes what that
-//! has. Each step says of pages in use elsewhere that they stay, whatever it answers.
+//! A leaf that has the row is put without its cell, and then the pages of its chain are made free. A leaf
+//! without a cell goes from the page above it, where that has two cells at least; `take_row` makes these
+//! two steps. Two neighbours whose cells fit one page become that page. A root whose only child is left
+//! takes what that has. Each step says of pages in use elsewhere that they stay, whatever it answers.
 #![tactic(auto)]
 
 mod below;
