@@ -1,11 +1,13 @@
 -- A tree that loses a row below one of its pages.
-use Rattle.std.proofs.Common.{◌≡◌, ◌≢◌, ℕ, zero, suc, ℤ, ◌+◌, ◌<◌, ◌≤◌, ◌∙◌, List, [], ◌∷◌, ◌++◌, Some, None, length, refl, sym, ap, subst, arith, inr}
+use Rattle.std.proofs.Common.{◌≡◌, ◌≢◌, ℕ, zero, suc, ℤ, ◌+◌, ◌<◌, ◌≤◌, ◌∙◌, List, [], ◌∷◌, ◌++◌, Some, None, take, drop, length, refl, sym, ap, subst, arith, inl, inr}
+use Rattle.std.proofs.lemmas.Bool.{le-ltb, lt-ltb}
+use Rattle.std.proofs.lemmas.Bool.Decides.{leb_tells}
 use Rattle.std.proofs.lemmas.List.{append-nil}
 use Rattle.spe_model.specs.declared.page.Cell.{Cell}
 use Rattle.spe_model.specs.Paging.{PageMap, Paging, lay}
 use Rattle.spe_model.specs.Served.{HasCells}
 use Rattle.spe_model.specs.Standing.{all_pages}
-use Rattle.spe_model.specs.Tree.{IsTree, node_cells, node_right, row_at, tree_rows}
+use Rattle.spe_model.specs.Tree.{IsTree, cells_in, child_for, node_cells, node_right, rank, right_in, row_at, tree_rows}
 use Rattle.spe_space.specs.declared.pages.Pages.{Ghosts}
 use Rattle.spe_space.specs.Calls.{Reads, sight}
 use Rattle.spe_frame.specs.Held.{AreHeld, IsReady, Shifts, Spares}
@@ -14,15 +16,20 @@ use Rattle.spe_frame.proofs.TimesLemmas.{here, times-append}
 use Rattle.spe_cut.specs.Gone.{RowIsTaken, without_row}
 use Rattle.spe_cut.specs.Child.{RunGrows}
 use Rattle.spe_cut.specs.Run.{AreFilledBelow, AreKept, HoldsRun, IsHolder, IsRun, Place, Run, alone, high_at, inner, last, low_at, pages_beside, pages_in, rows_in, with_child, with_run}
+use Rattle.spe_cut.proofs.HolderLemmas.{Reading}
 use Rattle.spe_search.specs.declared.page.Found.{Found}
 use Rattle.spe_search.specs.declared.page.Step.TheVariants.{Child, Missing, Row}
 use Rattle.spe_search.proofs.FoundLemmas.{interior_leads, no_leaf}
 use Rattle.spe_insert.specs.Below.{IsPlaceFor, LacksRow}
 use Rattle.spe_insert.specs.Laws.{HaveLaws}
+use Rattle.spe_insert.specs.Place.{place_at, place_behind, place_for}
+use Rattle.spe_insert.specs.Run.{with_first}
 use Rattle.spe_insert.specs.Step.{place_in}
+use Rattle.spe_insert.proofs.PlaceLemmas.{behind_first}
 use Rattle.spe_insert.proofs.LookLemmas.{IsAtChild, IsAtLeaf, IsLooked, at_leaf, tree_seen}
 use Rattle.spe_insert.proofs.PutBelowLemmas.{holder_kept, later_page, others_kept, spares_up}
-use Rattle.spe_delete.specs.Below.{TakesRow}
+use Rattle.spe_delete.specs.Below.{IsBare, TakesRow}
+use Rattle.spe_delete.specs.Child.{DropsChild, HasEmptyLeaf, KeepsLeaf}
 use Rattle.spe_delete.specs.Leaf.{DropsCell, IsAbsent, LosesRow}
 
 -- what is said of the pages of a tree after a get was said of them before it
@@ -109,13 +116,40 @@ pub takes_row : {P : Type 0} (g : Ghosts P) (a e : P) (pages : Paging) (low high
     → DropsCell g a e pages 0 low high page rowid cells → TakesRow g a e pages 0 low high page rowid
 takes_row g a e pages low high page rowid cells drops = record { loses = drops.loses; filled = λ has. has }
 
--- a child alone in its own place
 abbrev run_with : List Cell → ℕ → Run
 run_with cells right = record { cells = cells; right = right }
 
+-- a child alone in its own place
 pub alone_child : (place : Place) (child : ℕ) → with_run place (alone child) ≡ with_child place child
 alone_child (inner before c after right) child = refl
 alone_child (last before) child = ap (λ (cells : List Cell). run_with cells child) (append-nil before)
+
+-- a leaf without a cell, once the row of the tree above it is gone
+
+abbrev left_of : List Cell → ℕ
+left_of [] = 0
+left_of (c ∷ cs) = c.left
+
+abbrev tail_of : List Cell → List Cell
+tail_of [] = []
+tail_of (c ∷ cs) = cs
+
+abbrev behind : Run → Run
+behind run = run_with (tail_of run.cells) run.right
+
+one_on : (n : ℕ) → n + 1 ≡ suc n
+one_on n = omega arith
+
+-- the child that stands in a rowid's place is the one in which the rowid belongs
+pub child_from : (key : ℕ) (cells : List Cell) (right child : ℕ) → with_child (place_at (place_for key cells) (run_with cells right)) child ≡ run_with cells right
+    → child_for key cells right ≡ child
+child_from key [] right child is = sym (ap (λ (r : Run). r.right) is)
+child_from key (c ∷ cs) right child is = elim (leb_tells key (rank c.key)) [
+  | inl hit ↦ (let mine = rw (le-ltb (rank c.key) key hit.1) at is in rw (hit.0) (sym (ap (λ (r : Run). left_of r.cells) mine)))
+  | inr miss ↦ (let mine = rw (lt-ltb (rank c.key) key miss.1, one_on (place_for key cs)) at is in
+    rw (miss.0) (child_from key cs right child
+    (ap behind (sym (behind_first c (take (place_for key cs) cs) (drop (place_for key cs) cs) right child) ∙ mine))))
+]
 
 module _ {P : Type 0} (g : Ghosts P) (laws : HaveLaws g) (s a : P) (pages : Paging) (h low high page : ℕ) (rowid : ℤ) (child : ℕ)
     (reads : Reads g s a) (wide : 5 ≤ g.used s) (down : IsAtChild g s a pages h low high page rowid child) where
@@ -214,3 +248,96 @@ module _ {P : Type 0} (g : Ghosts P) (laws : HaveLaws g) (s a : P) (pages : Pagi
           };
           filled = filled;
         })
+
+    -- the child is a leaf without a cell now
+    module _ (placed : IsPlaceFor g s pages (suc h) low high page rowid) (bare : IsBare g a e pages h child) where
+      taken : TakesRow g s e pages (suc h) low high page rowid
+      taken = takes_below
+
+      used : g.used e ≡ g.used s
+      used = taken.loses.shifts.spares.sizes.used
+
+      used_a : g.used e ≡ u
+      used_a = takes.loses.shifts.spares.sizes.used
+
+      pub place_then : IsPlaceFor g e pages (suc h) low high page rowid
+      place_then = record {
+        ready = taken.loses.shifts.ready;
+        tree = subst (λ (v : ℕ). IsTree v now (suc h) low high page) (sym used) taken.loses.tree;
+        held = subst (λ (v : ℕ). AreHeld g e pages (all_pages v now (suc h) page)) (sym used) (taken.loses.shifts.held placed.held);
+        later = subst (λ (v : ℕ). Lacks (all_pages v now (suc h) page) 1) (sym used) (taken.loses.shifts.front placed.later);
+        from = placed.from;
+        to = placed.to;
+      }
+
+      pub bare_then : HasEmptyLeaf g e pages (suc h) page child rowid
+      bare_then = record {
+        level = ap suc bare.leaf;
+        leads = subst (λ (v : ℕ). child_for (rank rowid) (node_cells v now page) (node_right v now page) ≡ child) (sym used_a)
+            (ap (λ (r : Reading). child_for (rank rowid) (cells_in r) (right_in r)) holds.node ∙ child_from (rank rowid) down.children.cells down.children.right child down.up.is_child);
+        empty = subst (λ (v : ℕ). node_cells v now child ≡ []) (sym used_a) bare.empty;
+      }
+
+pub low_two : (h : ℕ) → h ≡ 0 → suc h < 2
+low_two h is = omega (arith, is)
+
+-- the tree without the row, whose leaf went then
+pub takes_less : {P : Type 0} (g : Ghosts P) → HaveLaws g → (s m e : P) (pages : Paging) (height low high page : ℕ) (rowid : ℤ) (run : Run)
+    → TakesRow g s m pages height low high page rowid → DropsChild g m e pages height low high page run → TakesRow g s e pages height low high page rowid
+takes_less g laws s m e pages height low high page rowid run taken drops =
+    let u = g.used s in
+    let p = sight g s pages in
+    let q = sight g m pages in
+    let r = sight g e pages in
+    let used : g.used m ≡ u = taken.loses.shifts.spares.sizes.used in
+    let rows = subst (λ (v : ℕ). tree_rows v r height page ≡ tree_rows v q height page) used drops.rows in
+    let then_ = subst (λ (v : ℕ). Shifts g m e pages (all_pages v q height page) (all_pages v r height page) 0) used drops.shifts in
+    record {
+      loses = record {
+        payload = taken.loses.payload;
+        present = taken.loses.present;
+        tree = subst (λ (v : ℕ). IsTree v r height low high page) used drops.tree;
+        rows = rows ∙ taken.loses.rows;
+        shifts = laws.both s m e pages (all_pages u p height page) (all_pages u q height page) (all_pages u r height page) 0 0 taken.loses.shifts then_;
+      };
+      filled = λ has. subst (λ (v : ℕ). HasCells v q height page → HasCells v r height page) used drops.filled (taken.filled has);
+    }
+
+-- the same, where nothing was changed then
+pub takes_kept : {P : Type 0} (g : Ghosts P) → HaveLaws g → (s m e : P) (pages : Paging) (height low high page : ℕ) (rowid : ℤ)
+    → TakesRow g s m pages height low high page rowid → Reads g m e → KeepsLeaf g m e pages height page → TakesRow g s e pages height low high page rowid
+takes_kept g laws s m e pages height low high page rowid taken reads kept =
+    let u = g.used s in
+    let p = sight g s pages in
+    let q = sight g m pages in
+    let used : g.used m ≡ u = taken.loses.shifts.spares.sizes.used in
+    let then_ = subst (λ (v : ℕ). Shifts g m e pages (all_pages v q height page) (all_pages v q height page) 0) used kept.shifts in
+    let back : g.laid m ≡ g.laid e = sym reads.laid in
+    record {
+      loses = record {
+        payload = taken.loses.payload;
+        present = taken.loses.present;
+        tree = subst (λ (laid : PageMap). IsTree u (lay laid pages) height low high page) back taken.loses.tree;
+        rows = subst (λ (laid : PageMap). tree_rows u (lay laid pages) height page ≡ without_row rowid (tree_rows u p height page)) back taken.loses.rows;
+        shifts = subst (λ (laid : PageMap). Shifts g s e pages (all_pages u p height page) (all_pages u (lay laid pages) height page) 0) back
+            (laws.both s m e pages (all_pages u p height page) (all_pages u q height page) (all_pages u q height page) 0 0 taken.loses.shifts then_);
+      };
+      filled = subst (λ (laid : PageMap). HasCells u p height page → HasCells u (lay laid pages) height page) back taken.filled;
+    }
+
+-- a leaf that could not go then
+pub fails_then : {P : Type 0} (g : Ghosts P) → HaveLaws g → (s m e : P) (pages : Paging) (height low high page : ℕ) (rowid : ℤ)
+    → TakesRow g s m pages height low high page rowid → Spares g m e pages (all_pages (g.used m) (sight g m pages) height page) 0
+    → Spares g s e pages (all_pages (g.used s) (sight g s pages) height page) 0
+fails_then g laws s m e pages height low high page rowid taken fails =
+    let used : g.used m ≡ g.used s = taken.loses.shifts.spares.sizes.used in
+    laws.fails s m e pages (all_pages (g.used s) (sight g s pages) height page) (all_pages (g.used s) (sight g m pages) height page) 0 0 taken.loses.shifts
+    (subst (λ (v : ℕ). Spares g m e pages (all_pages v (sight g m pages) height page) 0) used fails)
+
+-- the leaf that lost its last row
+pub bare_row : {P : Type 0} (g : Ghosts P) (s a e : P) (pages : Paging) (low high page : ℕ) (rowid : ℤ) (cells : List Cell)
+    → Reads g s a → DropsCell g a e pages 0 low high page rowid cells → cells ≡ [] → IsBare g s e pages 0 page
+bare_row g s a e pages low high page rowid cells reads drops none = record {
+  leaf = refl;
+  empty = subst (λ (v : ℕ). node_cells v (sight g e pages) page ≡ []) reads.used (ap cells_in drops.node ∙ none);
+}

@@ -1,6 +1,9 @@
 pub mod BelowLemmas
+pub mod ChildLemmas
 pub mod CutLemmas
 pub mod DropLemmas
+pub mod FewerLemmas
+pub mod LeafEndLemmas
 pub mod MergeLemmas
 pub mod RootLemmas
 pub mod RowLemmas

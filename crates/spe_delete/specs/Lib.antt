@@ -1,5 +1,6 @@
 pub mod Leaf
 pub mod Below
+pub mod Child
 pub mod Merge
 pub mod Root
 pub mod Row

@@ -1,4 +1,4 @@
--- A row that is taken out of a table's tree whose pages all stay, at a bound `P: Pages`.
+-- A row that is taken out of a table's tree, which stays as high as it was, at a bound `P: Pages`.
 use Rattle.std.specs.Prelude.{◌≡◌, ℕ, ℤ, List, Some}
 use Rattle.spe_model.specs.Paging.{Paging}
 use Rattle.spe_model.specs.Served.{IsGrown}

@@ -1,4 +1,4 @@
-//! A row that is taken out of a table's tree, whose pages all stay.
+//! A row that is taken out of a table's tree.
 
 ghost use Rattle.std.specs.Prelude.{◌≡◌, true, false, None, IfOk};
 ghost use Rattle.spe_model.specs.Standing.{pages_of_tree};
@@ -17,11 +17,12 @@ use std::alloc::Global;
 /// Takes the row with a rowid out of the table whose tree has the page `root` as its root, and answers
 /// whether it did. False, and nothing is put, where there is no row with the rowid.
 ///
-/// The tree keeps its pages and its height: a leaf whose last row goes stays in it without a cell. A page
-/// is got on the way down, the leaf is put once, and then the pages of the row's chain are made free; no
-/// page is handed out. The root is another page than page 1. Corrupt names a page that is no legal page
-/// of a table or would be the tree's 21st level, or a page of a chain that ends wrong. It fails as `get`,
-/// `put` and `free` do. ("B-tree Pages" in SQLite's Database File Format.)
+/// The tree keeps its height. A leaf whose last row goes is taken off the page above it and made free,
+/// unless that page has two children alone: then the leaf stays, without a cell. A page is got on the way
+/// down, the leaf is put once, and so is the page above a leaf that goes; no page is handed out. The root
+/// is another page than page 1. Corrupt names a page that is no legal page of a table or would be the
+/// tree's 21st level, or a page of a chain that ends wrong. It fails as `get`, `put` and `free` do.
+/// ("B-tree Pages" in SQLite's Database File Format.)
 pub fn take_row<S: PageSpace>(
     alloc: Global,
     space: &mut S,

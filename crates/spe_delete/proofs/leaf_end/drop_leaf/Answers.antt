@@ -1,0 +1,272 @@
+use Rattle.std.proofs.Common.{◌≡◌, ◌≤◌, ◌∙◌, ℕ, ℤ, zero, suc, List, [], ◌∷◌, length, refl, sym, ap, subst, arith, to_z, of_z, w64, to_z-of_z, false, true, Ok}
+use Rattle.spe_model.specs.Page.{page_at}
+use Rattle.spe_model.specs.Standing.{all_pages}
+use Rattle.spe_model.specs.Tree.{header_end, node_cells}
+use Rattle.spe_space.specs.Calls.{sight}
+use Rattle.spe_space.specs.Front.{number_in}
+use Rattle.spe_space.specs.Outcome.{IsSure}
+use Rattle.spe_format.specs.Canonical.{fits}
+use Rattle.spe_frame.specs.Held.{Spares}
+use Rattle.spe_write.specs.Chain.{IsSureOfTree}
+use Rattle.spe_cut.specs.Parts.{run_cells}
+use Rattle.spe_insert.specs.Below.{IsPlaceFor}
+use Rattle.spe_insert.proofs.LookLemmas.{page_held, tree_seen}
+use Rattle.spe_delete.specs.Child.{DropsChild, HasEmptyLeaf, KeepsLeaf}
+use Rattle.spe_delete.proofs.LeafEndLemmas.{IsEnd, at_one, children_at, end_fails, ended_by, later, leaf_low, left_ascends, legal_is, node, not_both, two_held}
+use Rattle.spe_delete.proofs.leaf_end.drop_leaf.Goals as goal
+
+pub returns-in-Err-clause-spares : goal.returns-in-Err-clause-spares
+returns-in-Err-clause-spares g c = λ pages height low high agrees less placed empty.
+    (tree_seen g.S.Pages c.below_law.ensures c.args.space.now c.see_page.new.space pages height low high c.args.page c.args.rowid placed (λ ready held. c.in-Err.ensures.shifts pages agrees ready held)).spares
+
+pub returns-in-Err-clause-likely : goal.returns-in-Err-clause-likely
+returns-in-Err-clause-likely g c = λ pages height low high agrees less placed empty unsealed.
+    c.in-Err.ensures.likely pages agrees placed.ready (page_held g.S.Pages c.below_law.ensures c.args.space.now pages height low high c.args.page c.args.rowid placed)
+
+pub returns-in-Ok-None-clause-spares : goal.returns-in-Ok-None-clause-spares
+returns-in-Ok-None-clause-spares g c = λ pages height low high agrees less placed empty.
+    (tree_seen g.S.Pages c.below_law.ensures c.args.space.now c.see_page.new.space pages height low high c.args.page c.args.rowid placed (λ ready held. c.in-Ok.ensures.shifts pages agrees ready held)).spares
+
+pub returns-in-Err-fewer_children-clause-spares : goal.returns-in-Err-fewer_children-clause-spares
+returns-in-Err-fewer_children-clause-spares g c = λ pages height low high agrees less placed empty.
+    (tree_seen g.S.Pages c.below_law.ensures c.args.space.now c.see_page.new.space pages height low high c.args.page c.args.rowid placed (λ ready held. c.in-Ok.ensures.shifts pages agrees ready held)).spares
+
+pub returns-in-Ok-None-clause-single : goal.returns-in-Ok-None-clause-single
+returns-in-Ok-None-clause-single g c = λ none pages height low high agrees less placed empty.
+    let s = c.args.space.now in
+    let a = c.see_page.new.space in
+    let page = c.args.page in
+    let leaf = c.args.leaf in
+    let z = to_z w64 (of_z w64 c.args.rowid) in
+    let same : z ≡ c.args.rowid = grind (arith, to_z-of_z) in
+    let laws = c.below_law.ensures in
+    let wider = c.stretch_law.ensures.wider in
+    let placed_z : IsPlaceFor g.S.Pages s pages height low high page z = subst (λ (k : ℤ). IsPlaceFor g.S.Pages s pages height low high page k) (sym same) placed in
+    let empty_z : HasEmptyLeaf g.S.Pages s pages height page leaf z = subst (λ (k : ℤ). HasEmptyLeaf g.S.Pages s pages height page leaf k) (sym same) empty in
+    let agrees_a = agrees in
+    let bytes = c.in-Ok.ensures.bytes pages agrees_a in
+    let used = c.usable-usable.ensures.value ∙ c.in-Ok.ensures.reads.used in
+    let usable = c.usable-usable.result in
+    let inside : g.S.Pages.used s ≤ length (sight g.S.Pages s pages page) = subst (λ (bs : List ℕ). g.S.Pages.used s ≤ length bs) bytes (subst (λ (v : ℕ). v ≤ length c.see_page.new.buf) used c.in-Ok-None.ensures.wide) in
+    let wide : 480 ≤ g.S.Pages.used s = (let range = c.usable-usable.ensures.range.0 in omega (arith, range, used)) in
+    at_one (λ (h : ℕ). IsPlaceFor g.S.Pages s pages h low high page z → HasEmptyLeaf g.S.Pages s pages h page leaf z → KeepsLeaf g.S.Pages s a pages h page) height empty_z.level
+    (λ at there.
+    let x : IsEnd g.S.Pages s a pages low high page leaf z = record {
+      placed = at;
+      empty = there;
+      reads = c.in-Ok.ensures.reads;
+      seen = tree_seen g.S.Pages laws s a pages (suc zero) low high page z at (λ ready held. c.in-Ok.ensures.shifts pages agrees_a ready held);
+      inside = inside;
+      wide = wide;
+    } in
+    let children = children_at (g.S.Pages.used s) (sight g.S.Pages s pages) page in
+    let legal = legal_is usable (g.S.Pages.used s) page (sight g.S.Pages s pages) c.see_page.new.buf children used bytes (node g.S.Pages laws wider s a pages low high page leaf z x) in
+    record { few = c.in-Ok-None.ensures.single c.in-Ok-None.field-0-is children legal; shifts = x.seen }) placed_z empty_z
+
+pub returns-in-Err-fewer_children-clause-likely : goal.returns-in-Err-fewer_children-clause-likely
+returns-in-Err-fewer_children-clause-likely g c = λ pages height low high agrees less placed empty unsealed.
+    let s = c.args.space.now in
+    let a = c.see_page.new.space in
+    let page = c.args.page in
+    let leaf = c.args.leaf in
+    let z = to_z w64 (of_z w64 c.args.rowid) in
+    let same : z ≡ c.args.rowid = grind (arith, to_z-of_z) in
+    let laws = c.below_law.ensures in
+    let wider = c.stretch_law.ensures.wider in
+    let placed_z : IsPlaceFor g.S.Pages s pages height low high page z = subst (λ (k : ℤ). IsPlaceFor g.S.Pages s pages height low high page k) (sym same) placed in
+    let empty_z : HasEmptyLeaf g.S.Pages s pages height page leaf z = subst (λ (k : ℤ). HasEmptyLeaf g.S.Pages s pages height page leaf k) (sym same) empty in
+    let agrees_a = agrees in
+    let bytes = c.in-Ok.ensures.bytes pages agrees_a in
+    let used = c.usable-usable.ensures.value ∙ c.in-Ok.ensures.reads.used in
+    let usable = c.usable-usable.result in
+    let inside : g.S.Pages.used s ≤ length (sight g.S.Pages s pages page) = subst (λ (bs : List ℕ). g.S.Pages.used s ≤ length bs) bytes (subst (λ (v : ℕ). v ≤ length c.see_page.new.buf) used c.in-Err-fewer_children.ensures.wide) in
+    let wide : 480 ≤ g.S.Pages.used s = (let range = c.usable-usable.ensures.range.0 in omega (arith, range, used)) in
+    at_one (λ (h : ℕ). IsPlaceFor g.S.Pages s pages h low high page z → HasEmptyLeaf g.S.Pages s pages h page leaf z → IsSureOfTree (number_in (sight g.S.Pages a pages)) c.in-Err-fewer_children.fault) height empty_z.level
+    (λ at there.
+    let x : IsEnd g.S.Pages s a pages low high page leaf z = record {
+      placed = at;
+      empty = there;
+      reads = c.in-Ok.ensures.reads;
+      seen = tree_seen g.S.Pages laws s a pages (suc zero) low high page z at (λ ready held. c.in-Ok.ensures.shifts pages agrees_a ready held);
+      inside = inside;
+      wide = wide;
+    } in
+    let children = children_at (g.S.Pages.used s) (sight g.S.Pages s pages) page in
+    let legal = legal_is usable (g.S.Pages.used s) page (sight g.S.Pages s pages) c.see_page.new.buf children used bytes (node g.S.Pages laws wider s a pages low high page leaf z x) in
+    let sure = c.in-Err-fewer_children.ensures.fault children legal (λ some. left_ascends g.S.Pages laws wider s a pages low high page leaf z x some) in
+    subst (IsSureOfTree (number_in (sight g.S.Pages a pages))) (sym sure) tt) placed_z empty_z
+
+pub returns-in-Ok-false-clause-spares : goal.returns-in-Ok-false-clause-spares
+returns-in-Ok-false-clause-spares g c = λ pages height low high agrees less placed empty.
+    let s = c.args.space.now in
+    let a = c.see_page.new.space in
+    let page = c.args.page in
+    let leaf = c.args.leaf in
+    let z = to_z w64 (of_z w64 c.args.rowid) in
+    let same : z ≡ c.args.rowid = grind (arith, to_z-of_z) in
+    let laws = c.below_law.ensures in
+    let wider = c.stretch_law.ensures.wider in
+    let placed_z : IsPlaceFor g.S.Pages s pages height low high page z = subst (λ (k : ℤ). IsPlaceFor g.S.Pages s pages height low high page k) (sym same) placed in
+    let empty_z : HasEmptyLeaf g.S.Pages s pages height page leaf z = subst (λ (k : ℤ). HasEmptyLeaf g.S.Pages s pages height page leaf k) (sym same) empty in
+    let agrees_a = c.in-Ok-false.ensures.kept.earlier pages agrees in
+    let bytes = c.in-Ok.ensures.bytes pages agrees_a in
+    let used = c.usable-usable.ensures.value ∙ c.in-Ok.ensures.reads.used in
+    let usable = c.usable-usable.result in
+    let inside : g.S.Pages.used s ≤ length (sight g.S.Pages s pages page) = subst (λ (bs : List ℕ). g.S.Pages.used s ≤ length bs) bytes (subst (λ (v : ℕ). v ≤ length c.see_page.new.buf) used c.in-Ok-Some.ensures.wide) in
+    let wide : 480 ≤ g.S.Pages.used s = (let range = c.usable-usable.ensures.range.0 in omega (arith, range, used)) in
+    at_one (λ (h : ℕ). IsPlaceFor g.S.Pages s pages h low high page z → HasEmptyLeaf g.S.Pages s pages h page leaf z → Spares g.S.Pages s c.merge_pages.new.space pages (all_pages (g.S.Pages.used s) (sight g.S.Pages s pages) h page) 0) height empty_z.level
+    (λ at there.
+    let x : IsEnd g.S.Pages s a pages low high page leaf z = record {
+      placed = at;
+      empty = there;
+      reads = c.in-Ok.ensures.reads;
+      seen = tree_seen g.S.Pages laws s a pages (suc zero) low high page z at (λ ready held. c.in-Ok.ensures.shifts pages agrees_a ready held);
+      inside = inside;
+      wide = wide;
+    } in
+    let children = children_at (g.S.Pages.used s) (sight g.S.Pages s pages) page in
+    let legal = legal_is usable (g.S.Pages.used s) page (sight g.S.Pages s pages) c.see_page.new.buf children used bytes (node g.S.Pages laws wider s a pages low high page leaf z x) in
+    let some = (rw c.in-Ok-Some.field-0-is at c.in-Ok-Some.ensures.some) children legal in
+    end_fails g.S.Pages laws wider s a pages low high page leaf z x some c.merge_pages.new.space
+    (c.in-Ok-false.ensures.spares pages agrees x.seen.ready (two_held g.S.Pages laws wider s a pages low high page leaf z x some) (later g.S.Pages laws wider s a pages low high page leaf z x) (leaf_low g.S.Pages laws wider s a pages low high page leaf z x some))) placed_z empty_z
+
+pub returns-in-Ok-false-clause-likely : goal.returns-in-Ok-false-clause-likely
+returns-in-Ok-false-clause-likely g c = λ pages height low high agrees less placed empty unsealed.
+    let s = c.args.space.now in
+    let a = c.see_page.new.space in
+    let page = c.args.page in
+    let leaf = c.args.leaf in
+    let z = to_z w64 (of_z w64 c.args.rowid) in
+    let same : z ≡ c.args.rowid = grind (arith, to_z-of_z) in
+    let laws = c.below_law.ensures in
+    let wider = c.stretch_law.ensures.wider in
+    let placed_z : IsPlaceFor g.S.Pages s pages height low high page z = subst (λ (k : ℤ). IsPlaceFor g.S.Pages s pages height low high page k) (sym same) placed in
+    let empty_z : HasEmptyLeaf g.S.Pages s pages height page leaf z = subst (λ (k : ℤ). HasEmptyLeaf g.S.Pages s pages height page leaf k) (sym same) empty in
+    let agrees_a = c.in-Ok-false.ensures.kept.earlier pages agrees in
+    let bytes = c.in-Ok.ensures.bytes pages agrees_a in
+    let used = c.usable-usable.ensures.value ∙ c.in-Ok.ensures.reads.used in
+    let usable = c.usable-usable.result in
+    let inside : g.S.Pages.used s ≤ length (sight g.S.Pages s pages page) = subst (λ (bs : List ℕ). g.S.Pages.used s ≤ length bs) bytes (subst (λ (v : ℕ). v ≤ length c.see_page.new.buf) used c.in-Ok-Some.ensures.wide) in
+    let wide : 480 ≤ g.S.Pages.used s = (let range = c.usable-usable.ensures.range.0 in omega (arith, range, used)) in
+    at_one (λ (h : ℕ). IsPlaceFor g.S.Pages s pages h low high page z → HasEmptyLeaf g.S.Pages s pages h page leaf z → ⊥) height empty_z.level
+    (λ at there.
+    let x : IsEnd g.S.Pages s a pages low high page leaf z = record {
+      placed = at;
+      empty = there;
+      reads = c.in-Ok.ensures.reads;
+      seen = tree_seen g.S.Pages laws s a pages (suc zero) low high page z at (λ ready held. c.in-Ok.ensures.shifts pages agrees_a ready held);
+      inside = inside;
+      wide = wide;
+    } in
+    let children = children_at (g.S.Pages.used s) (sight g.S.Pages s pages) page in
+    let legal = legal_is usable (g.S.Pages.used s) page (sight g.S.Pages s pages) c.see_page.new.buf children used bytes (node g.S.Pages laws wider s a pages low high page leaf z x) in
+    let fit = rw c.in-Ok-Some.field-0-is at c.in-Ok-Some.ensures.fit in
+    let fits_ = c.in-Ok-false.ensures.fits (later g.S.Pages laws wider s a pages low high page leaf z x) in
+    not_both (sym c.in-Ok-false.field-0-test ∙ fits_ ∙ ap (λ (v : ℕ). fits c.in-Ok-Some.node 0 v) (sym c.usable-usable.ensures.value) ∙ fit)) placed_z empty_z
+
+pub returns-in-Err-merge_pages-clause-spares : goal.returns-in-Err-merge_pages-clause-spares
+returns-in-Err-merge_pages-clause-spares g c = λ pages height low high agrees less placed empty.
+    let s = c.args.space.now in
+    let a = c.see_page.new.space in
+    let page = c.args.page in
+    let leaf = c.args.leaf in
+    let z = to_z w64 (of_z w64 c.args.rowid) in
+    let same : z ≡ c.args.rowid = grind (arith, to_z-of_z) in
+    let laws = c.below_law.ensures in
+    let wider = c.stretch_law.ensures.wider in
+    let placed_z : IsPlaceFor g.S.Pages s pages height low high page z = subst (λ (k : ℤ). IsPlaceFor g.S.Pages s pages height low high page k) (sym same) placed in
+    let empty_z : HasEmptyLeaf g.S.Pages s pages height page leaf z = subst (λ (k : ℤ). HasEmptyLeaf g.S.Pages s pages height page leaf k) (sym same) empty in
+    let agrees_a = c.in-Err-merge_pages.ensures.kept.earlier pages agrees in
+    let bytes = c.in-Ok.ensures.bytes pages agrees_a in
+    let used = c.usable-usable.ensures.value ∙ c.in-Ok.ensures.reads.used in
+    let usable = c.usable-usable.result in
+    let inside : g.S.Pages.used s ≤ length (sight g.S.Pages s pages page) = subst (λ (bs : List ℕ). g.S.Pages.used s ≤ length bs) bytes (subst (λ (v : ℕ). v ≤ length c.see_page.new.buf) used c.in-Ok-Some.ensures.wide) in
+    let wide : 480 ≤ g.S.Pages.used s = (let range = c.usable-usable.ensures.range.0 in omega (arith, range, used)) in
+    at_one (λ (h : ℕ). IsPlaceFor g.S.Pages s pages h low high page z → HasEmptyLeaf g.S.Pages s pages h page leaf z → Spares g.S.Pages s c.merge_pages.new.space pages (all_pages (g.S.Pages.used s) (sight g.S.Pages s pages) h page) 0) height empty_z.level
+    (λ at there.
+    let x : IsEnd g.S.Pages s a pages low high page leaf z = record {
+      placed = at;
+      empty = there;
+      reads = c.in-Ok.ensures.reads;
+      seen = tree_seen g.S.Pages laws s a pages (suc zero) low high page z at (λ ready held. c.in-Ok.ensures.shifts pages agrees_a ready held);
+      inside = inside;
+      wide = wide;
+    } in
+    let children = children_at (g.S.Pages.used s) (sight g.S.Pages s pages) page in
+    let legal = legal_is usable (g.S.Pages.used s) page (sight g.S.Pages s pages) c.see_page.new.buf children used bytes (node g.S.Pages laws wider s a pages low high page leaf z x) in
+    let some = (rw c.in-Ok-Some.field-0-is at c.in-Ok-Some.ensures.some) children legal in
+    end_fails g.S.Pages laws wider s a pages low high page leaf z x some c.merge_pages.new.space
+    (c.in-Err-merge_pages.ensures.spares pages agrees x.seen.ready (two_held g.S.Pages laws wider s a pages low high page leaf z x some) (later g.S.Pages laws wider s a pages low high page leaf z x) (leaf_low g.S.Pages laws wider s a pages low high page leaf z x some))) placed_z empty_z
+
+pub returns-in-Err-merge_pages-clause-likely : goal.returns-in-Err-merge_pages-clause-likely
+returns-in-Err-merge_pages-clause-likely g c = λ pages height low high agrees less placed empty unsealed.
+    let s = c.args.space.now in
+    let a = c.see_page.new.space in
+    let page = c.args.page in
+    let leaf = c.args.leaf in
+    let z = to_z w64 (of_z w64 c.args.rowid) in
+    let same : z ≡ c.args.rowid = grind (arith, to_z-of_z) in
+    let laws = c.below_law.ensures in
+    let wider = c.stretch_law.ensures.wider in
+    let placed_z : IsPlaceFor g.S.Pages s pages height low high page z = subst (λ (k : ℤ). IsPlaceFor g.S.Pages s pages height low high page k) (sym same) placed in
+    let empty_z : HasEmptyLeaf g.S.Pages s pages height page leaf z = subst (λ (k : ℤ). HasEmptyLeaf g.S.Pages s pages height page leaf k) (sym same) empty in
+    let agrees_a = c.in-Err-merge_pages.ensures.kept.earlier pages agrees in
+    let bytes = c.in-Ok.ensures.bytes pages agrees_a in
+    let used = c.usable-usable.ensures.value ∙ c.in-Ok.ensures.reads.used in
+    let usable = c.usable-usable.result in
+    let inside : g.S.Pages.used s ≤ length (sight g.S.Pages s pages page) = subst (λ (bs : List ℕ). g.S.Pages.used s ≤ length bs) bytes (subst (λ (v : ℕ). v ≤ length c.see_page.new.buf) used c.in-Ok-Some.ensures.wide) in
+    let wide : 480 ≤ g.S.Pages.used s = (let range = c.usable-usable.ensures.range.0 in omega (arith, range, used)) in
+    at_one (λ (h : ℕ). IsPlaceFor g.S.Pages s pages h low high page z → HasEmptyLeaf g.S.Pages s pages h page leaf z → IsSure (number_in (sight g.S.Pages c.merge_pages.new.space pages)) c.in-Err-merge_pages.fault) height empty_z.level
+    (λ at there.
+    let x : IsEnd g.S.Pages s a pages low high page leaf z = record {
+      placed = at;
+      empty = there;
+      reads = c.in-Ok.ensures.reads;
+      seen = tree_seen g.S.Pages laws s a pages (suc zero) low high page z at (λ ready held. c.in-Ok.ensures.shifts pages agrees_a ready held);
+      inside = inside;
+      wide = wide;
+    } in
+    let children = children_at (g.S.Pages.used s) (sight g.S.Pages s pages) page in
+    let legal = legal_is usable (g.S.Pages.used s) page (sight g.S.Pages s pages) c.see_page.new.buf children used bytes (node g.S.Pages laws wider s a pages low high page leaf z x) in
+    let some = (rw c.in-Ok-Some.field-0-is at c.in-Ok-Some.ensures.some) children legal in
+    c.in-Err-merge_pages.ensures.likely pages agrees x.seen.ready (two_held g.S.Pages laws wider s a pages low high page leaf z x some) (c.in-Ok.ensures.reads.sealed ∙ unsealed) (later g.S.Pages laws wider s a pages low high page leaf z x) (leaf_low g.S.Pages laws wider s a pages low high page leaf z x some)) placed_z empty_z
+
+pub returns-clause-dropped : goal.returns-clause-dropped
+returns-clause-dropped g c = λ pages height low high agrees less placed empty.
+    let s = c.args.space.now in
+    let a = c.see_page.new.space in
+    let page = c.args.page in
+    let leaf = c.args.leaf in
+    let z = to_z w64 (of_z w64 c.args.rowid) in
+    let same : z ≡ c.args.rowid = grind (arith, to_z-of_z) in
+    let laws = c.below_law.ensures in
+    let wider = c.stretch_law.ensures.wider in
+    let placed_z : IsPlaceFor g.S.Pages s pages height low high page z = subst (λ (k : ℤ). IsPlaceFor g.S.Pages s pages height low high page k) (sym same) placed in
+    let empty_z : HasEmptyLeaf g.S.Pages s pages height page leaf z = subst (λ (k : ℤ). HasEmptyLeaf g.S.Pages s pages height page leaf k) (sym same) empty in
+    let agrees_a = c.in-Ok-true.ensures.kept.earlier pages agrees in
+    let bytes = c.in-Ok.ensures.bytes pages agrees_a in
+    let used = c.usable-usable.ensures.value ∙ c.in-Ok.ensures.reads.used in
+    let usable = c.usable-usable.result in
+    let inside : g.S.Pages.used s ≤ length (sight g.S.Pages s pages page) = subst (λ (bs : List ℕ). g.S.Pages.used s ≤ length bs) bytes (subst (λ (v : ℕ). v ≤ length c.see_page.new.buf) used c.in-Ok-Some.ensures.wide) in
+    let wide : 480 ≤ g.S.Pages.used s = (let range = c.usable-usable.ensures.range.0 in omega (arith, range, used)) in
+    at_one (λ (h : ℕ). IsPlaceFor g.S.Pages s pages h low high page z → HasEmptyLeaf g.S.Pages s pages h page leaf z → DropsChild g.S.Pages s c.merge_pages.new.space pages h low high page (record { cells = c.in-Ok-Some.node.cells; right = c.in-Ok-Some.node.right })) height empty_z.level
+    (λ at there.
+    let x : IsEnd g.S.Pages s a pages low high page leaf z = record {
+      placed = at;
+      empty = there;
+      reads = c.in-Ok.ensures.reads;
+      seen = tree_seen g.S.Pages laws s a pages (suc zero) low high page z at (λ ready held. c.in-Ok.ensures.shifts pages agrees_a ready held);
+      inside = inside;
+      wide = wide;
+    } in
+    let children = children_at (g.S.Pages.used s) (sight g.S.Pages s pages) page in
+    let legal = legal_is usable (g.S.Pages.used s) page (sight g.S.Pages s pages) c.see_page.new.buf children used bytes (node g.S.Pages laws wider s a pages low high page leaf z x) in
+    let some = (rw c.in-Ok-Some.field-0-is at c.in-Ok-Some.ensures.some) children legal in
+    let is = (rw c.in-Ok-Some.field-0-is at c.in-Ok-Some.ensures.less) children legal in
+    let form = rw c.in-Ok-Some.field-0-is at c.in-Ok-Some.ensures.writable in
+    ended_by g.S.Pages laws wider s a pages low high page leaf z x some c.merge_pages.new.space usable c.in-Ok-Some.node used is form
+    (c.in-Ok-true.ensures.merged c.in-Ok-true.field-0-test pages agrees x.seen.ready (two_held g.S.Pages laws wider s a pages low high page leaf z x some) (later g.S.Pages laws wider s a pages low high page leaf z x) (leaf_low g.S.Pages laws wider s a pages low high page leaf z x some))) placed_z empty_z
+
+pub returns-clause-spares : goal.returns-clause-spares
+returns-clause-spares g c = λ pages height low high agrees less placed empty.
+    (returns-clause-dropped g c pages height low high agrees less placed empty).shifts.spares
