@@ -16,7 +16,7 @@ use Rattle.spe_space.specs.declared.pages.Pages.{Ghosts}
 use Rattle.spe_space.specs.Calls.{Reads, sight}
 use Rattle.spe_space.specs.Front.{number_in}
 use Rattle.spe_frame.specs.Held.{IsReady, Shifts}
-use Rattle.spe_served.specs.Change.{ChangesTable, IsServed, RootHasOne, TableAlone}
+use Rattle.spe_served.specs.Change.{ChangesTable, IsServed, RootHasOne, TableAlone, root_of_table}
 use Rattle.spe_served.specs.Lists.{ListsStand}
 use Rattle.spe_insert.specs.Insert.{Added, IsOwn, Present, Replaced, Unmatched, marked_root, most_pages}
 use Rattle.spe_modify.specs.Row.{ChangesRow, GainsRow, HasRowid, IsOpen, LacksRowid, TableOf, table_with, with_changed}
@@ -141,10 +141,23 @@ changes g s new pages root t rowid payload one is alone all =
       shifts = λ row it later. shifted g s new pages root t (table_with t (with_changed row t.rows)) rowid payload one is.root_is refl it (all it) later;
     }
 
-pub lacks_rowid : {P : Type 0} (g : Ghosts P) (s new : P) (pages : Paging) (root : ℕ) (t : TableOf) (rowid : ℤ)
-    → IsOpen g s pages root t → (alone : Alone g s pages t) → Reads g s new → Unmatched g s new pages alone.tree rowid → LacksRowid g new pages t rowid
-lacks_rowid g s new pages root t rowid is alone reads none = record {
+-- the tree of a table is where it was
+stayed : {P : Type 0} (g : Ghosts P) (s new : P) (pages : Paging) (t : TableOf) (rowid : ℤ) → RootHasOne → Reads g s new
+    → (alone : Alone g s pages t) → Unmatched g s new pages alone.tree rowid → (later : Alone g new pages t)
+    → Shifts g s new pages (pages_of_tree (g.used s) (sight g s pages) alone.tree) (pages_of_tree (g.used new) (sight g new pages) later.tree) 0
+stayed g s new pages t rowid one reads alone none later =
+    let grown : IsGrown (g.used new) (sight g new pages) (root_of_table t.entry) alone.tree = rw (reads.used, reads.laid) alone.has.grown in
+    let is = one (g.used new) (sight g new pages) (root_of_table t.entry) alone.tree later.tree grown later.has.grown in
+    let own = pages_of_tree (g.used s) (sight g s pages) alone.tree in
+    let same : own ≡ pages_of_tree (g.used new) (sight g new pages) alone.tree = rw (reads.used, reads.laid) refl in
+    subst (λ (x : Tree). Shifts g s new pages own (pages_of_tree (g.used new) (sight g new pages) x) 0) is
+    (subst (λ (ys : List ℕ). Shifts g s new pages own ys 0) same none.shifts)
+
+pub lacks_rowid : {P : Type 0} (g : Ghosts P) (s new : P) (pages : Paging) (root : ℕ) (t : TableOf) (rowid : ℤ) → RootHasOne
+    → IsOpen g s pages root t → (alone : Alone g s pages t) → Reads g s new → ((alone : Alone g s pages t) → Unmatched g s new pages alone.tree rowid) → LacksRowid g s new pages t rowid
+lacks_rowid g s new pages root t rowid one is alone reads all = let none = all alone in record {
   absent = taken_is t.entry.table rowid (tree_rows (g.used s) (sight g s pages) alone.tree.height alone.tree.root) t.rows (rows_are g s pages root t is alone)
       ∙ ap (λ (o : Option (List ℕ)). is_some o) none.absent;
   served = served_still g t.opening s new pages t.db reads none.shifts.ready is.served;
+  shifts = λ it later. stayed g s new pages t rowid one reads it (all it) later;
 }

@@ -69,10 +69,11 @@ pub record ChangesRow {P : Type 0} (g : Ghosts P) (old new : P) (pages : Paging)
       → IsServed g t.opening new pages (with_rows t.name (with_changed row t.rows) t.db)
   pub shifts : (row : Row) → ShiftsOwn g old new pages t (table_with t (with_changed row t.rows)) (most_pages (g.used old) (length bytes))
 
--- No row has the rowid, and the pages are served for the same database.
-pub record LacksRowid {P : Type 0} (g : Ghosts P) (new : P) (pages : Paging) (t : TableOf) (rowid : ℤ) : Type 0 where
+-- No row has the rowid, and the pages are served for the same database, the table's tree being as it was.
+pub record LacksRowid {P : Type 0} (g : Ghosts P) (old new : P) (pages : Paging) (t : TableOf) (rowid : ℤ) : Type 0 where
   pub absent : is_taken t.rows rowid ≡ false
   pub served : IsServed g t.opening new pages t.db
+  pub shifts : ShiftsOwn g old new pages t t 0
 
 -- whatever is in use apart from the table's own tree and its chains stays, for a record of so many bytes
 abbrev pub SparesOthers : {P : Type 0} (g : Ghosts P) (old new : P) → Paging → TableOf → (size : ℕ) → Type 0
