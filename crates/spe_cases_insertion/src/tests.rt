@@ -1,3 +1,4 @@
 mod leaves;
+mod payloads;
 mod sizes;
 mod tables;

@@ -1,3 +1,4 @@
 pub mod OrderLemmas
 pub mod RowsLemmas
 pub mod ServedLemmas
+pub mod ManyLemmas

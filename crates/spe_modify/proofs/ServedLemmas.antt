@@ -1,24 +1,25 @@
 -- An open table of served pages that gets a row, or other values in one.
-use Rattle.std.proofs.Common.{◌≡◌, ℕ, ℤ, ◌*◌, ◌^◌, ◌<◌, ◌≤◌, true, List, [], length, Option, Some, None, is_some, sym, ap, ◌∙◌, subst, arith}
+use Rattle.std.proofs.Common.{◌≡◌, ℕ, ℤ, ◌*◌, ◌^◌, ◌<◌, ◌≤◌, true, List, [], length, Option, Some, None, is_some, refl, sym, ap, ◌∙◌, subst, arith}
 use Rattle.std.specs.Prelude.{Result, Ok, Err, IfOk}
 use Rattle.std.proofs.Math.Nat.{mul-le-mul_left}
 use lib.Signed.{mag}
+use Rattle.spe_model.specs.declared.catalog.Entry.{Entry}
 use Rattle.spe_model.specs.declared.table.TableDef.{TableDef}
 use Rattle.spe_model.specs.Database.{Database, Row}
 use Rattle.spe_model.specs.Justified.{Opening, ServedSince}
 use Rattle.spe_model.specs.Paging.{PageMap, Paging, lay}
 use Rattle.spe_model.specs.Rows.{with_row}
 use Rattle.spe_model.specs.Served.{IsGrown}
-use Rattle.spe_model.specs.Standing.{AreTableRows, IsTreeOf, Tree}
+use Rattle.spe_model.specs.Standing.{AreTableRows, IsTreeOf, Tree, pages_of_tree}
 use Rattle.spe_model.specs.Tree.{IsTableTree, tree_rows}
 use Rattle.spe_space.specs.declared.pages.Pages.{Ghosts}
 use Rattle.spe_space.specs.Calls.{Reads, sight}
 use Rattle.spe_space.specs.Front.{number_in}
-use Rattle.spe_frame.specs.Held.{IsReady}
-use Rattle.spe_served.specs.Change.{ChangesTable, IsServed, TableAlone}
+use Rattle.spe_frame.specs.Held.{IsReady, Shifts}
+use Rattle.spe_served.specs.Change.{ChangesTable, IsServed, RootHasOne, TableAlone, root_of_table}
 use Rattle.spe_served.specs.Lists.{ListsStand}
 use Rattle.spe_insert.specs.Insert.{Added, IsOwn, Present, Replaced, Unmatched, marked_root, most_pages}
-use Rattle.spe_modify.specs.Row.{ChangesRow, GainsRow, HasRowid, IsOpen, LacksRowid, TableOf, with_changed}
+use Rattle.spe_modify.specs.Row.{ChangesRow, GainsRow, HasRowid, IsOpen, LacksRowid, TableOf, table_with, with_changed}
 use Rattle.spe_modify.proofs.OrderLemmas.{Ascend, tree_ascends}
 use Rattle.spe_modify.proofs.RowsLemmas.{rows_changed, rows_put, taken_is}
 
@@ -112,9 +113,20 @@ has_rowid g s new pages root t rowid is alone reads present = record {
   served = served_still g t.opening s new pages t.db reads present.shifts.ready is.served;
 }
 
-pub changes : {P : Type 0} (g : Ghosts P) (s new : P) (pages : Paging) (root : ℕ) (t : TableOf) (rowid : ℤ) (payload : List ℕ)
-    → IsOpen g s pages root t → (alone : Alone g s pages t) → Replaced g s new pages root alone.tree rowid payload → ChangesRow g new pages t rowid payload
-changes g s new pages root t rowid payload is alone replaced =
+-- the tree of the table then is the one that its tree became
+shifted : {P : Type 0} (g : Ghosts P) (s new : P) (pages : Paging) (root : ℕ) (t then_ : TableOf) (rowid : ℤ) (payload : List ℕ) → RootHasOne → t.entry.root ≡ root → then_.entry ≡ t.entry
+    → (alone : Alone g s pages t) → Replaced g s new pages root alone.tree rowid payload → (later : Alone g new pages then_)
+    → Shifts g s new pages (pages_of_tree (g.used s) (sight g s pages) alone.tree) (pages_of_tree (g.used new) (sight g new pages) later.tree) (most_pages (g.used s) (length payload))
+shifted g s new pages root t then_ rowid payload one root_is same alone replaced later =
+    let grown : IsGrown (g.used new) (sight g new pages) (marked_root root) later.tree =
+    subst (λ (n : ℕ). IsGrown (g.used new) (sight g new pages) (marked_root n) later.tree) (ap (λ (e : Entry). e.root) same ∙ root_is) later.has.grown in
+    let is = one (g.used new) (sight g new pages) (marked_root root) replaced.other later.tree replaced.grown grown in
+    subst (λ (x : Tree). Shifts g s new pages (pages_of_tree (g.used s) (sight g s pages) alone.tree) (pages_of_tree (g.used new) (sight g new pages) x) (most_pages (g.used s) (length payload))) is replaced.shifts
+
+pub changes : {P : Type 0} (g : Ghosts P) (s new : P) (pages : Paging) (root : ℕ) (t : TableOf) (rowid : ℤ) (payload : List ℕ) → RootHasOne
+    → IsOpen g s pages root t → (alone : Alone g s pages t) → ((alone : Alone g s pages t) → Replaced g s new pages root alone.tree rowid payload) → ChangesRow g s new pages t rowid payload
+changes g s new pages root t rowid payload one is alone all =
+    let replaced = all alone in
     let table = t.entry.table in
     let stored = tree_rows (g.used s) (sight g s pages) alone.tree.height alone.tree.root in
     let are = rows_are g s pages root t is alone in
@@ -126,12 +138,26 @@ changes g s new pages root t rowid payload is alone replaced =
         rows_are = subst (λ (xs : List (ℤ × List ℕ)). AreTableRows table xs (with_changed row t.rows)) (sym replaced.rows)
             (rows_changed table rowid payload row stored t.rows stands are);
       });
+      shifts = λ row it later. shifted g s new pages root t (table_with t (with_changed row t.rows)) rowid payload one is.root_is refl it (all it) later;
     }
 
-pub lacks_rowid : {P : Type 0} (g : Ghosts P) (s new : P) (pages : Paging) (root : ℕ) (t : TableOf) (rowid : ℤ)
-    → IsOpen g s pages root t → (alone : Alone g s pages t) → Reads g s new → Unmatched g s new pages alone.tree rowid → LacksRowid g new pages t rowid
-lacks_rowid g s new pages root t rowid is alone reads none = record {
+-- the tree of a table is where it was
+stayed : {P : Type 0} (g : Ghosts P) (s new : P) (pages : Paging) (t : TableOf) (rowid : ℤ) → RootHasOne → Reads g s new
+    → (alone : Alone g s pages t) → Unmatched g s new pages alone.tree rowid → (later : Alone g new pages t)
+    → Shifts g s new pages (pages_of_tree (g.used s) (sight g s pages) alone.tree) (pages_of_tree (g.used new) (sight g new pages) later.tree) 0
+stayed g s new pages t rowid one reads alone none later =
+    let grown : IsGrown (g.used new) (sight g new pages) (root_of_table t.entry) alone.tree = rw (reads.used, reads.laid) alone.has.grown in
+    let is = one (g.used new) (sight g new pages) (root_of_table t.entry) alone.tree later.tree grown later.has.grown in
+    let own = pages_of_tree (g.used s) (sight g s pages) alone.tree in
+    let same : own ≡ pages_of_tree (g.used new) (sight g new pages) alone.tree = rw (reads.used, reads.laid) refl in
+    subst (λ (x : Tree). Shifts g s new pages own (pages_of_tree (g.used new) (sight g new pages) x) 0) is
+    (subst (λ (ys : List ℕ). Shifts g s new pages own ys 0) same none.shifts)
+
+pub lacks_rowid : {P : Type 0} (g : Ghosts P) (s new : P) (pages : Paging) (root : ℕ) (t : TableOf) (rowid : ℤ) → RootHasOne
+    → IsOpen g s pages root t → (alone : Alone g s pages t) → Reads g s new → ((alone : Alone g s pages t) → Unmatched g s new pages alone.tree rowid) → LacksRowid g s new pages t rowid
+lacks_rowid g s new pages root t rowid one is alone reads all = let none = all alone in record {
   absent = taken_is t.entry.table rowid (tree_rows (g.used s) (sight g s pages) alone.tree.height alone.tree.root) t.rows (rows_are g s pages root t is alone)
       ∙ ap (λ (o : Option (List ℕ)). is_some o) none.absent;
   served = served_still g t.opening s new pages t.db reads none.shifts.ready is.served;
+  shifts = λ it later. stayed g s new pages t rowid one reads it (all it) later;
 }

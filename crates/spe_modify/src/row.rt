@@ -62,9 +62,9 @@ pub fn replace_row<S: PageSpace>(
     requires refusal { S.Pages.refusal space.old ≡ None }
     requires most { length «record».now ≤ 2147483647 }
     ensures replaced { IfOk result (λ replaced. replaced ≡ true → WhereOpen S.Pages space.old space.new root (λ pages table.
-        ChangesRow S.Pages space.new pages table rowid «record».now)) }
+        ChangesRow S.Pages space.old space.new pages table rowid «record».now)) }
     ensures absent { IfOk result (λ replaced. replaced ≡ false → WhereOpen S.Pages space.old space.new root (λ pages table.
-        LacksRowid S.Pages space.new pages table rowid)) }
+        LacksRowid S.Pages space.old space.new pages table rowid)) }
     ensures idle { IfOk result (λ replaced. replaced ≡ false → Reads S.Pages space.old space.new) }
     ensures few { WhereOpen S.Pages space.old space.new root (λ pages table.
         SparesOthers S.Pages space.old space.new pages table (length «record».now)) }

@@ -37,7 +37,7 @@ use Rattle.spe_verdict.proofs.OneLemmas.{same_tree}
 use Rattle.spe_verdict.proofs.RootLemmas.{framed, table_page}
 use Rattle.spe_verdict.proofs.ShapeLemmas.{leaves_of_tree, same_height}
 use Rattle.spe_verdict.proofs.StandLemmas.{top}
-use Rattle.spe_served.specs.Change.{ChangesTable, HasRows, IsServed, entry_named, root_of_table}
+use Rattle.spe_served.specs.Change.{ChangesTable, HasRows, IsServed, RootHasOne, entry_named, root_of_table}
 use Rattle.spe_served.specs.Lists.{ListsStand}
 use Rattle.spe_served.proofs.EveryLemmas.{Every, every_back, every_from, every_front}
 use Rattle.spe_served.proofs.KeptLemmas.{KeepsRow, KeepsTree, kept_roots, kept_rows, roots_split, sort_stays}
@@ -313,3 +313,6 @@ changes g bounded lists opening s pages db name entry sv found free =
       later = later g opening s pages db name entry sv st;
       again = λ new other allocs others shifts has. again g bounded lists opening s pages db name entry sv free st new other allocs others shifts has;
     }
+
+pub one_tree : RootHasOne
+one_tree usable pages root a b x y = same_tree usable pages root.page a b x.0 y.0

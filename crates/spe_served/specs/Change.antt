@@ -53,3 +53,7 @@ pub record TableAlone {P : Type 0} (g : Ghosts P) (opening : Opening) (s : P) (p
 abbrev pub ChangesTable : {P : Type 0} (g : Ghosts P) → Type 0
 ChangesTable {P = P} g = (opening : Opening) (s : P) (pages : Paging) (db : Database) (name : List ℕ) (entry : Entry)
     → IsServed g opening s pages db → entry_named name opening.catalog ≡ Some entry → entry.table.closed ≡ None → TableAlone g opening s pages db name entry
+
+-- a root has one tree
+abbrev pub RootHasOne : Type 0
+RootHasOne = (usable : ℕ) (pages : Paging) (root : Root) (a b : Tree) → IsGrown usable pages root a → IsGrown usable pages root b → a ≡ b

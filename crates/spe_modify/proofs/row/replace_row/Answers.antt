@@ -10,9 +10,9 @@ returns-clause-replaced g c = if_ok c.replace.result (λ added given done pages 
     let root = c.args.root in
     let same : to_z w64 (of_z w64 c.args.rowid) ≡ c.args.rowid = grind (arith, to_z-of_z) in
     let alone = alone_there g.S.Pages s pages root t c.table_law.ensures.table is in
-    let put = given done pages alone.tree agrees (own g.S.Pages s pages root t (g.met.S.Pages.bounded s).0 is alone) in
-    changes g.S.Pages s new pages root t c.args.rowid c.args.record.now is alone
-    (subst (λ (z : ℤ). Replaced g.S.Pages s new pages root alone.tree z c.args.record.now) same put)) c.replace.ensures.replaced
+    changes g.S.Pages s new pages root t c.args.rowid c.args.record.now c.table_law.ensures.one is alone
+    (λ it. subst (λ (z : ℤ). Replaced g.S.Pages s new pages root it.tree z c.args.record.now) same
+    (given done pages it.tree agrees (own g.S.Pages s pages root t (g.met.S.Pages.bounded s).0 is it)))) c.replace.ensures.replaced
 
 pub returns-clause-absent : goal.returns-clause-absent
 returns-clause-absent g c = if_ok_both c.replace.result (λ added given reads idle pages t agrees is.
@@ -21,9 +21,9 @@ returns-clause-absent g c = if_ok_both c.replace.result (λ added given reads id
     let root = c.args.root in
     let same : to_z w64 (of_z w64 c.args.rowid) ≡ c.args.rowid = grind (arith, to_z-of_z) in
     let alone = alone_there g.S.Pages s pages root t c.table_law.ensures.table is in
-    let there = given idle pages alone.tree agrees (own g.S.Pages s pages root t (g.met.S.Pages.bounded s).0 is alone) in
-    lacks_rowid g.S.Pages s new pages root t c.args.rowid is alone (reads idle)
-    (subst (λ (z : ℤ). Unmatched g.S.Pages s new pages alone.tree z) same there)) c.replace.ensures.absent c.replace.ensures.idle
+    lacks_rowid g.S.Pages s new pages root t c.args.rowid c.table_law.ensures.one is alone (reads idle)
+    (λ it. subst (λ (z : ℤ). Unmatched g.S.Pages s new pages it.tree z) same
+    (given idle pages it.tree agrees (own g.S.Pages s pages root t (g.met.S.Pages.bounded s).0 is it)))) c.replace.ensures.absent c.replace.ensures.idle
 
 pub returns-clause-few : goal.returns-clause-few
 returns-clause-few g c = λ pages t agrees is alone.
