@@ -1,5 +1,5 @@
 -- The free pages of a pager are those of the lists that page 1 names, and served pages have such lists.
-use Rattle.std.proofs.Common.{inl, inr, ◌≡◌, ◌≢◌, ◌⊎◌, ◌+◌, ◌<◌, ◌≤◌, ◌∙◌, ℕ, List, [], ◌∷◌, ◌++◌, length, take, map, All, Ok, refl, sym, ap, subst, arith, ⊎_elim, true, false}
+use Rattle.std.proofs.Common.{inl, inr, ◌≡◌, ◌≢◌, ◌⊎◌, ◌+◌, ◌<◌, ◌≤◌, ◌∙◌, ℕ, zero, suc, List, [], ◌∷◌, ◌++◌, length, take, map, All, Ok, refl, sym, ap, subst, arith, ⊎_elim, true, false}
 use Rattle.std.specs.Prelude.{◌==◌, Bool, IsOk, IsTrue, slice_index_or}
 use Rattle.std.specs.List.{Contains, flat_map}
 use Rattle.std.proofs.lemmas.List.Elements.{All-head, All-tail}
@@ -11,7 +11,8 @@ use Rattle.spe_model.specs.Justified.{Opening, ServedSince}
 use Rattle.spe_model.specs.Header.{header_of}
 use Rattle.spe_model.specs.Paging.{Paging}
 use Rattle.spe_model.specs.Served.{Served, usable_in}
-use Rattle.spe_model.specs.Standing.{AreDistinct, AreFree, FreeChain, IsFreeChain, IsOneOf, IsServer, IsStock, StandsFor, Whether, all_pages, chain_of_free, pages_of_some}
+use Rattle.spe_model.specs.Standing.{AreDistinct, AreFree, FreeChain, IsFreeChain, IsOneOf, IsServer, IsStock, StandsFor, Whether, all_pages, chain_of_free, chain_pages, pages_of_some}
+use Rattle.spe_model.specs.Tree.{fan, node_cells, node_right}
 use Rattle.spe_model.specs.Verdict.{free_pages}
 use Rattle.spe_model.specs.Walk.{is_met}
 use Rattle.spe_space.specs.Free.{IsLaterPage}
@@ -42,7 +43,7 @@ lists_same usable pages (f ∷ fs) (g ∷ gs) same whole other =
     let more = lists_same usable pages fs gs rest (All-tail (IsFreeChain usable pages) f fs whole) (All-tail (IsFreeChain usable pages) g gs other) in
     ap (λ (h : FreeChain). h ∷ fs) one ∙ ap (λ (hs : List FreeChain). g ∷ hs) more
 
-times_of : (xs : List ℕ) (n : ℕ) → is_met xs n ≡ true → 0 < times n xs
+pub times_of : (xs : List ℕ) (n : ℕ) → is_met xs n ≡ true → 0 < times n xs
 times_of [] n met = absurd cc
 times_of (x ∷ xs) n met = ⊎_elim
     (λ (h : (x == n) ≡ true). let at = here n x xs (sym (eqb-true x n h)) in omega (arith, at))
@@ -127,8 +128,10 @@ among (f ∷ fs) first some = ⊎_elim
     (same_or_not first f.first)
 
 first_there : (usable : ℕ) (pages : Paging) (height page : ℕ) → 1 ≤ times page (all_pages usable pages height page)
-first_there usable pages zero page = let at = here page page _ refl in omega (arith, at)
-first_there usable pages (suc h) page = let at = here page page _ refl in omega (arith, at)
+first_there usable pages zero page = let at = here page page (flat_map (chain_pages usable pages) (node_cells usable pages page)) refl in omega (arith, at)
+first_there usable pages (suc h) page =
+    let at = here page page (flat_map (chain_pages usable pages) (node_cells usable pages page) ++ fan (all_pages usable pages h) (node_cells usable pages page) (node_right usable pages page)) refl in
+    omega (arith, at)
 
 pub legal_of : (count : ℕ) (pages : Paging) (db : Database) (served : Served count pages db) → IsOk (header_of (take 100 (pages 1)))
 legal_of count pages db served = subst IsOk (sym served.front.legal) refl
