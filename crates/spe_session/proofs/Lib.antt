@@ -9,3 +9,4 @@ pub mod AnswerLemmas
 pub mod ListLemmas
 pub mod StartLemmas
 pub mod CarriedLemmas
+pub mod TransactionLemmas

@@ -6,3 +6,4 @@ pub mod Lists
 pub mod Facts
 pub mod Carried
 pub mod Front
+pub mod Transaction

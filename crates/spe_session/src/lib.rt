@@ -15,7 +15,9 @@ mod page_space;
 mod pager;
 mod paging;
 mod put;
+mod resting;
 mod show;
+mod transaction;
 
 pub use alone::alone_law;
 pub use beginning::Beginning;

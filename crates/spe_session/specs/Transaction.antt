@@ -1,0 +1,111 @@
+-- A transaction over a store, from its begin to its end.
+use Rattle.std.specs.Prelude.{◌≡◌, ◌⊎◌, ◌+◌, ◌*◌, ◌^◌, ◌<◌, ◌≤◌, ℕ, false, List, [], ◌∷◌, ◌++◌, length, take, Option, None, Some, IfSome}
+use Rattle.spe_model.specs.declared.reply.Reply.{Reply}
+use Rattle.spe_model.specs.declared.transaction.End.TheVariants as ends
+use Rattle.spe_model.specs.declared.transaction.Tx.{Tx}
+use Rattle.spe_model.specs.declared.transcript.Cause.{Cause}
+use Rattle.spe_model.specs.declared.transcript.Cause.TheVariants as causes
+use Rattle.spe_model.specs.declared.transcript.Outcome.{Outcome}
+use Rattle.spe_model.specs.declared.transcript.Outcome.TheVariants.{Commit, Rollback, ReadOnly, Busy, Full, Fault, Memory}
+use Rattle.spe_model.specs.Database.{Database}
+use Rattle.spe_model.specs.Faults.{Rose}
+use Rattle.spe_model.specs.Meaning.{replies_of}
+use Rattle.spe_model.specs.Paging.{Given}
+use Rattle.spe_space.specs.declared.fault.TreeFault.{TreeFault}
+use Rattle.spe_space.specs.declared.fault.TreeFault.TheVariants.{Space, Corrupt}
+use Rattle.spe_space.specs.Outcome.{OnFull}
+use Rattle.spe_store.specs.declared.log.Log.{Log}
+use Rattle.spe_store.specs.declared.session.SessionSeat.{SessionSeat}
+use Rattle.spe_store.specs.Desk.{Desk}
+use Rattle.spe_store.specs.Event.{entries_in}
+use Rattle.spe_store.specs.Opened.{Opened}
+use Rattle.spe_store.specs.Served.{AreServed, Entry, Says, database_after, pages_of}
+use Rattle.spe_store.specs.Store.{AreSeen, Store}
+use Rattle.spe_session.specs.Alone.{IsIdle}
+
+-- a store with no transaction at work, unless it has stopped
+abbrev pub IsResting : Store → Type 0
+IsResting s = s.desk.stopped ≡ None → IsIdle s.events
+
+-- whatever the database is for which the pages of the opening were served, where the disk told what its files held
+abbrev pub WhereWasServed : Opened → (Database → Type 0) → Type 0
+WhereWasServed opened What = IfSome opened.first (λ first. (db : Database) → AreServed opened.read opened.pages db → What db)
+
+-- the number of an outcome: of the commit itself, or of the commits that the transaction saw
+abbrev pub number_of : Outcome → ℕ
+number_of (Commit number) = number
+number_of (Rollback number) = number
+number_of (ReadOnly number) = number
+number_of (Busy number page word) = number
+number_of (Full number pages) = number
+number_of (Fault number cause) = number
+number_of (Memory number) = number
+
+-- The commit of a transaction of a client is entered behind the others.
+pub record IsEntered (before after : List Entry) (client tx : ℕ) (body : Tx) (replies : List Reply) : Type 0 where
+  pub entry : Entry
+  pub entries : after ≡ before ++ entry ∷ []
+  pub log : entry.log ≡ record { client = client; tx = tx; body = body; replies = replies }
+
+-- What an outcome says of the list of commits: it is as before, but for a commit, which is its last.
+abbrev pub Enters : (before after : List Entry) (client tx : ℕ) (body : Tx) (replies : List Reply) → Outcome → Type 0
+Enters before after client tx body replies (Commit number) = IsEntered before after client tx body replies × (number ≡ length after)
+Enters before after client tx body replies _ = after ≡ before
+
+-- the replies are those to all statements of the transaction, or to some first ones, on a database
+abbrev pub AreFront : Database → Tx → List Reply → Type 0
+AreFront db body replies = (k : ℕ) × (replies ≡ take k (replies_of db body))
+
+-- What an outcome says of the replies, where the pages of the opening were served for a database: they are right on the
+-- database that the commits within its number leave. A commit's own number counts it, and so it saw one commit less.
+abbrev pub AreRight : List Entry → Database → Tx → List Reply → Outcome → Type 0
+AreRight entries db body replies (Commit number) = replies ≡ replies_of (database_after db entries) body
+AreRight entries db body replies (Rollback number) = replies ≡ replies_of (database_after db (take number entries)) body
+AreRight entries db body replies (ReadOnly number) = ⊥
+AreRight entries db body replies (Busy number page word) = ⊥
+AreRight entries db body replies (Full number pages) = AreFront (database_after db (take number entries)) body replies × (length replies < length body.statements)
+AreRight entries db body replies (Fault number cause) = AreFront (database_after db (take number entries)) body replies
+AreRight entries db body replies (Memory number) = AreFront (database_after db (take number entries)) body replies
+
+-- a transaction ends as it asks, if it ends well
+abbrev pub EndsAs : Tx → Outcome → Type 0
+EndsAs body (Commit number) = body.end ≡ ends.Commit
+EndsAs body (Rollback number) = body.end ≡ ends.Rollback
+EndsAs body (ReadOnly number) = ⊥
+EndsAs body (Busy number page word) = ⊥
+EndsAs body _ = Unit {0}
+
+-- why a transaction could not go on
+abbrev pub IsCause : Opened → (old new : Desk) → Cause → Type 0
+IsCause opened old new causes.Read = Rose opened.reads new.reads
+IsCause opened old new (causes.Stopped op) = new.stopped ≡ Some op
+IsCause opened old new (causes.Corrupt page) = opened.first ≡ None
+
+-- why an outcome comes: sixteen pages more would be too many; or a call outside failed; or pages are not what they were,
+-- where nobody tells them
+abbrev pub HasReason : Opened → (old new : Desk) → Outcome → Type 0
+HasReason opened old new (Full number pages) = 2 ^ 30 < (pages + 16) * opened.found.page_size
+HasReason opened old new (Fault number cause) = IsCause opened old new cause
+HasReason opened old new _ = Unit {0}
+
+-- What was told to a session: the number of its newest outcome, which is never lower than what it was told before. It is at
+-- most the number of commits, and a commit's is higher.
+pub record IsTold (entries : List Entry) (before now : SessionSeat) (outcome : Outcome) : Type 0 where
+  pub number : now ≡ record before { told = number_of outcome }
+  pub low : before.told ≤ number_of outcome
+  pub high : number_of outcome ≤ length entries
+
+-- once a store has stopped, it says so and does nothing
+abbrev pub StaysStopped : (old new : Store) → Outcome → Type 0
+StaysStopped old new outcome = (op : ℕ) → old.desk.stopped ≡ Some op → (new ≡ old) × ((number : ℕ) × (outcome ≡ Fault number (causes.Stopped op)))
+
+-- What a transaction rests on, where the disk tells its files: the pages after the commits are served for what these leave,
+-- and all that it was given is of them.
+pub record RestsOn (opened : Opened) (entries : List Entry) (seen : Given) : Type 0 where
+  pub says : Says opened entries (length entries) (pages_of opened entries)
+  pub seen_is : AreSeen (pages_of opened entries) seen
+
+-- what is said of a fault that is Full
+abbrev pub OnTreeFull : Type 0 → TreeFault → Type 0
+OnTreeFull what (Space f) = OnFull what f
+OnTreeFull what (Corrupt page) = Unit {0}
