@@ -1,12 +1,27 @@
 -- A transaction that has carried out its statements, or some of them.
 use Rattle.std.proofs.Common.{◌≡◌, ◌+◌, ◌<◌, ◌≤◌, ◌∙◌, ℕ, List, [], ◌∷◌, ◌++◌, length, take, All, Option, Some, None, Result, Ok, Err, OnOk, refl, sym, ap, subst, arith}
 use Rattle.std.specs.Prelude.{IfErr}
+use Rattle.std.proofs.lemmas.List.{take_all}
+use Rattle.std.proofs.lemmas.List.Elements.{All-cons, All-head, All-nil, All-tail}
+use Rattle.spe_model.specs.declared.reply.Reply.{Reply}
+use Rattle.spe_model.specs.declared.statement.Statement.{Statement}
+use Rattle.spe_model.specs.declared.transaction.TxKind.{TxKind}
+use Rattle.spe_model.specs.Database.{Database}
+use Rattle.spe_model.specs.Meaning.{meaning, replies_from}
+use Rattle.spe_model.specs.Paging.{Agrees, Given, Paging}
+use Rattle.spe_space.specs.declared.pages.Pages.{Ghosts}
 use Rattle.spe_space.specs.declared.fault.SpaceFault.{SpaceFault}
 use Rattle.spe_space.specs.declared.fault.SpaceFault.TheVariants as faults
 use Rattle.spe_space.specs.declared.fault.TreeFault.{TreeFault}
 use Rattle.spe_space.specs.declared.fault.TreeFault.TheVariants as trees
 use Rattle.spe_space.specs.Outcome.{OnFull}
-use Rattle.spe_session.specs.Transaction.{OnTreeFull}
+use Rattle.spe_transactions.specs.Pages.{page_at}
+use Rattle.spe_store.specs.Opened.{Opened}
+use Rattle.spe_store.specs.Served.{AreServed, Entry, database_after, pages_of}
+use Rattle.spe_store.specs.Store.{AreSeen}
+use Rattle.spe_exec.specs.Justifying.{JustifiedIn}
+use Rattle.spe_session.specs.Carried.{IsFront}
+use Rattle.spe_session.specs.Transaction.{OnTreeFull, RestsOn}
 
 pub on_ok : {X E : Type 0} (r : Result X E) (A B : Type 0) → (A → B) → OnOk r A → OnOk r B
 on_ok (Ok x) A B f a = f a
@@ -26,3 +41,43 @@ pub short_of : {X : Type 0} (r : Result X TreeFault) (what : Type 0) → IfErr r
 short_of (Ok x) what w = tt
 short_of (Err (trees.Space f)) what w = full_of what f w
 short_of (Err (trees.Corrupt page)) what w = tt
+
+-- the replies to some first statements are the first replies
+first_replies : (kind : TxKind) (db : Database) (done left : List Statement) → replies_from kind db done ≡ take (length done) (replies_from kind db (done ++ left))
+first_replies kind db [] left = refl
+first_replies kind db (s ∷ ss) left = ap (λ (rs : List Reply). (meaning kind db s).1 ∷ rs) (first_replies kind (meaning kind db s).0 ss left)
+
+agrees_by : (pages : List (List ℕ)) (paging : Paging) (xs : List (List ℕ)) (n : ℕ) → ((p : ℕ) (bytes : List ℕ) → page_at pages p ≡ Some bytes → paging p ≡ bytes)
+    → All (λ (bytes : List ℕ). page_at pages n ≡ Some bytes) xs → All (λ (bytes : List ℕ). paging n ≡ bytes) xs
+agrees_by pages paging [] n gives all = All-nil (λ (bytes : List ℕ). paging n ≡ bytes)
+agrees_by pages paging (x ∷ xs) n gives all =
+    All-cons (λ (bytes : List ℕ). paging n ≡ bytes) x xs (gives n x (All-head (λ (bytes : List ℕ). page_at pages n ≡ Some bytes) x xs all))
+    (agrees_by pages paging xs n gives (All-tail (λ (bytes : List ℕ). page_at pages n ≡ Some bytes) x xs all))
+
+-- what was given of pages agrees with any pages that have theirs
+seen_agrees : (pages : List (List ℕ)) (paging : Paging) (seen : Given) → ((p : ℕ) (bytes : List ℕ) → page_at pages p ≡ Some bytes → paging p ≡ bytes) → AreSeen pages seen → Agrees paging seen
+seen_agrees pages paging seen gives are = record { each = λ n. agrees_by pages paging (seen n) n gives (are n) }
+
+-- the pages after the commits are served for what these leave
+served_now : (opened : Opened) (entries : List Entry) (seen : Given) → RestsOn opened entries seen → (db : Database) → AreServed opened.read opened.pages db
+    → AreServed opened.read (pages_of opened entries) (database_after db entries)
+served_now opened entries seen rests db was =
+    subst (λ (es : List Entry). AreServed opened.read (pages_of opened entries) (database_after db es)) (take_all (length entries) entries (omega arith)) (rests.says db was)
+
+module _ {P : Type 0} (g : Ghosts P) (opened : Opened) (entries : List Entry) (s : P) (rests : RestsOn opened entries (g.seen s)) (kind : TxKind) where
+  -- justified replies to all statements are those on the database that the commits leave
+  pub all_right : (statements : List Statement) (replies : List Reply) → JustifiedIn g opened.read (record { kind = kind; statements = statements; replies = replies }) s
+      → (db : Database) → AreServed opened.read opened.pages db → replies ≡ replies_from kind (database_after db entries) statements
+  all_right statements replies justified db was =
+      let now = served_now opened entries (g.seen s) rests db was in
+      justified.replied (length (pages_of opened entries)) now.paging (database_after db entries) now.served (seen_agrees (pages_of opened entries) now.paging (g.seen s) now.gives rests.seen_is)
+
+  -- and those to some first ones are the first of these
+  pub front_right : (statements : List Statement) (replies : List Reply) → IsFront g opened.read kind statements replies s
+      → (db : Database) → AreServed opened.read opened.pages db → (k : ℕ) × (replies ≡ take k (replies_from kind (database_after db entries) statements))
+  front_right statements replies front db was =
+      let now = served_now opened entries (g.seen s) rests db was in
+      let first : replies ≡ replies_from kind (database_after db entries) front.done =
+      front.replied (length (pages_of opened entries)) now.paging (database_after db entries) now.served (seen_agrees (pages_of opened entries) now.paging (g.seen s) now.gives rests.seen_is) in
+      (length front.done, first ∙ first_replies kind (database_after db entries) front.done front.left
+      ∙ ap (λ (ss : List Statement). take (length front.done) (replies_from kind (database_after db entries) ss)) (sym front.split))
