@@ -38,6 +38,10 @@ admits_own (space.Busy page word) = false
 admits_own (space.Stopped op) = false
 admits_own _ = true
 
+-- a fault that is kept is one of these
+abbrev pub IsAdmitted : Option SpaceFault → Type 0
+IsAdmitted kept = (fault : SpaceFault) → kept ≡ Some fault → admits_own fault ≡ true
+
 -- what a transaction began on: the files and the commits, how many pages there were, its id, and the first trunk of its list
 pub record Begun : Type 0 where
   pub told : Option History

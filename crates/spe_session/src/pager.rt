@@ -8,7 +8,7 @@ ghost use Rattle.spe_store.specs.Call.{IsTied};
 ghost use Rattle.spe_store.specs.Event.{entries_in, seen_in};
 ghost use Rattle.spe_store.specs.Event.Event.{Begun};
 ghost use Rattle.spe_session.specs.Alone.{IsAlone, IsReading};
-ghost use Rattle.spe_session.specs.Below.{IsBelow, IsUnwritten, below_of};
+ghost use Rattle.spe_session.specs.Below.{IsAdmitted, IsBelow, IsUnwritten, admits_own, below_of};
 ghost use Rattle.spe_session.specs.Pages.{AreSized, AreUpTo, IsShown, KeepsSeen, are_numbered, bytes_at, front_read, front_shown, laid_in};
 
 use crate::beginning::Beginning;
@@ -74,6 +74,8 @@ pub struct Pager<D: Disk, N: Opening, K: Beginning> {
     ghost more: { store.count ≤ pages },
     ghost few: { pages ≤ limit },
     ghost bounded: { limit * size ≤ 2 ^ 30 },
+    // Nobody else holds a page, and the store has not stopped.
+    ghost admitted: { IsAdmitted refusal },
 }
 
 /// What a pager was made of, in which nothing was written.
@@ -165,6 +167,7 @@ impl<D: Disk, N: Opening, K: Beginning> Pager<D, N, K> {
 
     // Keeps a fault other than want of memory, and gives it back.
     pub(crate) fn refuse(&mut self, fault: SpaceFault) -> SpaceFault
+        requires admitted { admits_own fault ≡ true }
         ensures fault { result ≡ fault }
         ensures kept { self.new.refusal ≡ refusal_of fault self.old.refusal }
         ensures store { self.new.store ≡ self.old.store }
