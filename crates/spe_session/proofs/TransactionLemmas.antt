@@ -5,10 +5,12 @@ use Rattle.std.proofs.lemmas.List.{take_all}
 use Rattle.std.proofs.lemmas.List.Elements.{All-cons, All-head, All-nil, All-tail}
 use Rattle.spe_model.specs.declared.reply.Reply.{Reply}
 use Rattle.spe_model.specs.declared.statement.Statement.{Statement}
+use Rattle.spe_model.specs.declared.transaction.Tx.{Tx}
 use Rattle.spe_model.specs.declared.transaction.TxKind.{TxKind}
 use Rattle.spe_model.specs.Database.{Database}
 use Rattle.spe_model.specs.Meaning.{meaning, replies_from}
 use Rattle.spe_model.specs.Paging.{Agrees, Given, Paging}
+use Rattle.spe_model.specs.Trace.{History}
 use Rattle.spe_space.specs.declared.pages.Pages.{Ghosts}
 use Rattle.spe_space.specs.declared.fault.SpaceFault.{SpaceFault}
 use Rattle.spe_space.specs.declared.fault.SpaceFault.TheVariants as faults
@@ -18,10 +20,10 @@ use Rattle.spe_space.specs.Outcome.{OnFull}
 use Rattle.spe_transactions.specs.Pages.{page_at}
 use Rattle.spe_store.specs.Opened.{Opened}
 use Rattle.spe_store.specs.Served.{AreServed, Entry, database_after, pages_of}
-use Rattle.spe_store.specs.Store.{AreSeen}
+use Rattle.spe_store.specs.Store.{AreSeen, IfTold}
 use Rattle.spe_exec.specs.Justifying.{JustifiedIn}
 use Rattle.spe_session.specs.Carried.{IsFront}
-use Rattle.spe_session.specs.Transaction.{OnTreeFull, RestsOn}
+use Rattle.spe_session.specs.Transaction.{AreFront, AreRight, IsOwnFault, OnTreeFull, RestsOn, outcome_of}
 
 pub on_ok : {X E : Type 0} (r : Result X E) (A B : Type 0) → (A → B) → OnOk r A → OnOk r B
 on_ok (Ok x) A B f a = f a
@@ -81,3 +83,28 @@ module _ {P : Type 0} (g : Ghosts P) (opened : Opened) (entries : List Entry) (s
       front.replied (length (pages_of opened entries)) now.paging (database_after db entries) now.served (seen_agrees (pages_of opened entries) now.paging (g.seen s) now.gives rests.seen_is) in
       (length front.done, first ∙ first_replies kind (database_after db entries) front.done front.left
       ∙ ap (λ (ss : List Statement). take (length front.done) (replies_from kind (database_after db entries) ss)) (sym front.split))
+
+pub told_map : (told : Option History) (A B : History → Type 0) → ((h : History) → A h → B h) → IfTold told A → IfTold told B
+told_map None A B f a = tt
+told_map (Some h) A B f a = f h a
+
+-- all commits are the first of them, as many as there are
+pub all_taken : (entries : List Entry) (number : ℕ) → number ≡ length entries → take number entries ≡ entries
+all_taken entries number is = take_all number entries (omega (arith, is))
+
+-- the replies before a fault are right, on the database that all commits leave
+pub fault_right : (entries : List Entry) (db : Database) (body : Tx) (replies : List Reply) (number : ℕ) (fault : TreeFault) → number ≡ length entries
+    → IsOwnFault fault → OnTreeFull (length replies < length body.statements) fault → AreFront (database_after db entries) body replies → AreRight entries db body replies (outcome_of number fault)
+fault_right entries db body replies number fault is own short front =
+    by_fault fault own short (subst (λ (es : List Entry). AreFront (database_after db es) body replies) (sym (all_taken entries number is)) front)
+  where
+    by_fault : (f : TreeFault) → IsOwnFault f → OnTreeFull (length replies < length body.statements) f → AreFront (database_after db (take number entries)) body replies
+        → AreRight entries db body replies (outcome_of number f)
+    by_fault (trees.Space (faults.Busy page word)) own short front = absurd cc
+    by_fault (trees.Space faults.Read) own short front = front
+    by_fault (trees.Space (faults.Stopped op)) own short front = absurd cc
+    by_fault (trees.Space (faults.Full pages)) own short front = (front, short)
+    by_fault (trees.Space (faults.PageOut page pages)) own short front = front
+    by_fault (trees.Space (faults.Corrupt page)) own short front = front
+    by_fault (trees.Space faults.Memory) own short front = front
+    by_fault (trees.Corrupt page) own short front = front

@@ -1,5 +1,5 @@
 -- A transaction over a store, from its begin to its end.
-use Rattle.std.specs.Prelude.{◌≡◌, ◌⊎◌, ◌+◌, ◌*◌, ◌^◌, ◌<◌, ◌≤◌, ℕ, false, List, [], ◌∷◌, ◌++◌, length, take, Option, None, Some, IfSome}
+use Rattle.std.specs.Prelude.{◌≡◌, ◌⊎◌, ◌+◌, ◌*◌, ◌^◌, ◌<◌, ◌≤◌, ℕ, true, List, [], ◌∷◌, ◌++◌, length, take, Option, None, Some, IfSome}
 use Rattle.spe_model.specs.declared.reply.Reply.{Reply}
 use Rattle.spe_model.specs.declared.transaction.End.TheVariants as ends
 use Rattle.spe_model.specs.declared.transaction.Tx.{Tx}
@@ -13,6 +13,7 @@ use Rattle.spe_model.specs.Meaning.{replies_of}
 use Rattle.spe_model.specs.Paging.{Given}
 use Rattle.spe_space.specs.declared.fault.TreeFault.{TreeFault}
 use Rattle.spe_space.specs.declared.fault.TreeFault.TheVariants.{Space, Corrupt}
+use Rattle.spe_space.specs.declared.fault.SpaceFault.TheVariants as faults
 use Rattle.spe_space.specs.Outcome.{OnFull}
 use Rattle.spe_store.specs.declared.log.Log.{Log}
 use Rattle.spe_store.specs.declared.session.SessionSeat.{SessionSeat}
@@ -22,6 +23,7 @@ use Rattle.spe_store.specs.Opened.{Opened}
 use Rattle.spe_store.specs.Served.{AreServed, Entry, Says, database_after, pages_of}
 use Rattle.spe_store.specs.Store.{AreSeen, Store}
 use Rattle.spe_session.specs.Alone.{IsIdle}
+use Rattle.spe_session.specs.Below.{admits_own}
 
 -- a store with no transaction at work, unless it has stopped
 abbrev pub IsResting : Store → Type 0
@@ -48,9 +50,12 @@ pub record IsEntered (before after : List Entry) (client tx : ℕ) (body : Tx) (
   pub log : entry.log ≡ record { client = client; tx = tx; body = body; replies = replies }
 
 -- What an outcome says of the list of commits: it is as before, but for a commit, which is its last.
-abbrev pub Enters : (before after : List Entry) (client tx : ℕ) (body : Tx) (replies : List Reply) → Outcome → Type 0
-Enters before after client tx body replies (Commit number) = IsEntered before after client tx body replies × (number ≡ length after)
-Enters before after client tx body replies _ = after ≡ before
+abbrev pub EntersBy : (before after : List Entry) (client tx : ℕ) (body : Tx) (replies : List Reply) → Outcome → Type 0
+EntersBy before after client tx body replies (Commit number) = IsEntered before after client tx body replies × (number ≡ length after)
+EntersBy before after client tx body replies _ = after ≡ before
+
+abbrev pub Enters : (old new : Store) (client tx : ℕ) (body : Tx) (replies : List Reply) → Outcome → Type 0
+Enters old new client tx body replies outcome = EntersBy (entries_in old.events) (entries_in new.events) client tx body replies outcome
 
 -- the replies are those to all statements of the transaction, or to some first ones, on a database
 abbrev pub AreFront : Database → Tx → List Reply → Type 0
@@ -75,25 +80,24 @@ EndsAs body (ReadOnly number) = ⊥
 EndsAs body (Busy number page word) = ⊥
 EndsAs body _ = Unit {0}
 
--- why a transaction could not go on
-abbrev pub IsCause : Opened → (old new : Desk) → Cause → Type 0
-IsCause opened old new causes.Read = Rose opened.reads new.reads
-IsCause opened old new (causes.Stopped op) = new.stopped ≡ Some op
-IsCause opened old new (causes.Corrupt page) = opened.first ≡ None
+-- a transaction that names an operation could not go on since the store has stopped at it
+abbrev pub IsCause : (new : Desk) → Cause → Type 0
+IsCause new (causes.Stopped op) = new.stopped ≡ Some op
+IsCause new _ = Unit {0}
 
--- why an outcome comes: sixteen pages more would be too many; or a call outside failed; or pages are not what they were,
--- where nobody tells them
-abbrev pub HasReason : Opened → (old new : Desk) → Outcome → Type 0
-HasReason opened old new (Full number pages) = 2 ^ 30 < (pages + 16) * opened.found.page_size
-HasReason opened old new (Fault number cause) = IsCause opened old new cause
-HasReason opened old new _ = Unit {0}
+abbrev pub HasReason : (new : Desk) → Outcome → Type 0
+HasReason new (Fault number cause) = IsCause new cause
+HasReason new _ = Unit {0}
 
 -- What was told to a session: the number of its newest outcome, which is never lower than what it was told before. It is at
 -- most the number of commits, and a commit's is higher.
-pub record IsTold (entries : List Entry) (before now : SessionSeat) (outcome : Outcome) : Type 0 where
+pub record IsToldBy (entries : List Entry) (before now : SessionSeat) (outcome : Outcome) : Type 0 where
   pub number : now ≡ record before { told = number_of outcome }
   pub low : before.told ≤ number_of outcome
   pub high : number_of outcome ≤ length entries
+
+abbrev pub IsTold : (old new : Store) (before now : SessionSeat) (outcome : Outcome) → Type 0
+IsTold old new before now outcome = IsToldBy (entries_in new.events) before now outcome
 
 -- once a store has stopped, it says so and does nothing
 abbrev pub StaysStopped : (old new : Store) → Outcome → Type 0
@@ -109,3 +113,19 @@ pub record RestsOn (opened : Opened) (entries : List Entry) (seen : Given) : Typ
 abbrev pub OnTreeFull : Type 0 → TreeFault → Type 0
 OnTreeFull what (Space f) = OnFull what f
 OnTreeFull what (Corrupt page) = Unit {0}
+
+-- the outcome of a transaction that met a fault
+abbrev pub outcome_of : (number : ℕ) → TreeFault → Outcome
+outcome_of number (Space (faults.Busy page word)) = Busy number page word
+outcome_of number (Space faults.Read) = Fault number causes.Read
+outcome_of number (Space (faults.Stopped op)) = Fault number (causes.Stopped op)
+outcome_of number (Space (faults.Full pages)) = Full number pages
+outcome_of number (Space (faults.PageOut page pages)) = Fault number (causes.Corrupt page)
+outcome_of number (Space (faults.Corrupt page)) = Fault number (causes.Corrupt page)
+outcome_of number (Space faults.Memory) = Memory number
+outcome_of number (Corrupt page) = Fault number (causes.Corrupt page)
+
+-- a fault that calls over a pager may answer
+abbrev pub IsOwnFault : TreeFault → Type 0
+IsOwnFault (Space f) = admits_own f ≡ true
+IsOwnFault (Corrupt page) = Unit {0}

@@ -1,21 +1,116 @@
 //! A transaction of a client, up to its end.
 
-ghost use Rattle.std.specs.Prelude.{◌≡◌, ◌<◌, [], All, IfErr, None, OnOk, length, true, ℕ};
+ghost use Rattle.std.specs.Prelude.{◌≡◌, ◌<◌, ◌≤◌, [], All, IfErr, None, OnOk, length, true, ℕ};
+ghost use Rattle.spe_model.specs.declared.transaction.End.TheVariants as ends;
+ghost use Rattle.spe_model.specs.Database.{Database};
+ghost use Rattle.spe_store.specs.Event.{entries_in};
+ghost use Rattle.spe_store.specs.Served.{AreServed};
+ghost use Rattle.spe_store.specs.Store.{IfTold};
 ghost use Rattle.spe_model.specs.declared.statement.Statement.{Statement as AnyStatement};
 ghost use Rattle.spe_frame.specs.Times.{times};
 ghost use Rattle.spe_exec.specs.Justifying.{JustifiedIn};
 ghost use Rattle.spe_exec.specs.Writes.{is_built};
 ghost use Rattle.spe_session.specs.Carried.{IsFront};
-ghost use Rattle.spe_session.specs.Transaction.{OnTreeFull};
+ghost use Rattle.spe_session.specs.Transaction.{AreRight, EndsAs, EntersBy, HasReason, IsOwnFault, IsResting, IsToldBy, OnTreeFull, number_of, outcome_of};
 
 use crate::beginning::Beginning;
 use crate::carrying::carry_out;
+use crate::leaving::Left;
 use crate::pager::Pager;
 use spe_disk::Disk;
-use spe_model::{Catalog, Reply, Statement, TxKind};
-use spe_space::{Pages, TreeFault};
-use spe_store::Opening;
+use spe_model::{Catalog, Cause, Outcome, Replies, Reply, Statement, Tx, TxKind};
+use spe_space::{Pages, SpaceFault, TreeFault};
+use spe_store::{Opening, SessionSeat, Store};
 use std::alloc::Global;
+
+/// What became of a transaction: the store, how it ended, and the replies as far as they go.
+#[derive(Drop)]
+pub struct Ran<D: Disk, N: Opening> {
+    pub store: Store<D, N>,
+    pub outcome: Outcome,
+    pub replies: Replies,
+}
+
+// The outcome of a transaction that met a fault.
+fn outcome_of(number: u64, fault: TreeFault) -> Outcome
+    ensures outcome { result ≡ outcome_of number fault }
+    ensures number { number_of result ≡ number }
+{
+    match fault {
+        TreeFault::Space(SpaceFault::Busy { page, word }) => Outcome::Busy { number, page, word },
+        TreeFault::Space(SpaceFault::Read) => Outcome::Fault {
+            number,
+            cause: Cause::Read,
+        },
+        TreeFault::Space(SpaceFault::Stopped { op }) => Outcome::Fault {
+            number,
+            cause: Cause::Stopped { op },
+        },
+        TreeFault::Space(SpaceFault::Full { pages }) => Outcome::Full { number, pages },
+        TreeFault::Space(SpaceFault::Memory) => Outcome::Memory { number },
+        TreeFault::Space(SpaceFault::PageOut { page, .. })
+        | TreeFault::Space(SpaceFault::Corrupt { page })
+        | TreeFault::Corrupt { page } => Outcome::Fault {
+            number,
+            cause: Cause::Corrupt { page },
+        },
+    }
+}
+
+// Gives up a transaction that met a fault.
+fn fail<D: Disk, N: Opening, K: Beginning>(
+    pager: Pager<D, N, K>,
+    session: &mut SessionSeat,
+    body: &Tx,
+    fault: TreeFault,
+    replies: Replies,
+) -> Ran<D, N>
+    requires told { session.old.told ≤ length K.begun.entries }
+    requires front { IsFront ⟦<Pager<D, N, K> as Pages>⟧ N.opened.read body.now.kind body.now.statements replies pager }
+    requires own { IsOwnFault fault }
+    requires short { OnTreeFull (length replies < length body.now.statements) fault }
+    ensures enters { (client tx : ℕ) → EntersBy K.begun.entries (entries_in result.store.events) client tx body.now result.replies result.outcome }
+    ensures ends { EndsAs body.now result.outcome }
+    ensures right { IfTold K.begun.told (λ _. (db : Database) → AreServed N.opened.read N.opened.pages db → AreRight K.begun.entries db body.now result.replies result.outcome) }
+    ensures reason { HasReason result.store.desk result.outcome }
+    ensures session { IsToldBy (entries_in result.store.events) session.old session.new result.outcome }
+    ensures resting { IsResting result.store }
+{
+    pager.rests();
+    let Left { store, number } = pager.give_up(session);
+    Ran {
+        store,
+        outcome: outcome_of(number, fault),
+        replies,
+    }
+}
+
+// Rolls back a transaction whose statements were all carried out.
+fn roll_back<D: Disk, N: Opening, K: Beginning>(
+    pager: Pager<D, N, K>,
+    session: &mut SessionSeat,
+    body: &Tx,
+    replies: Replies,
+) -> Ran<D, N>
+    requires told { session.old.told ≤ length K.begun.entries }
+    requires done { JustifiedIn ⟦<Pager<D, N, K> as Pages>⟧ N.opened.read
+        (record { kind = body.now.kind; statements = body.now.statements; replies = replies }) pager }
+    requires rolls { body.now.end ≡ ends.Rollback }
+    ensures enters { (client tx : ℕ) → EntersBy K.begun.entries (entries_in result.store.events) client tx body.now result.replies result.outcome }
+    ensures ends { EndsAs body.now result.outcome }
+    ensures right { IfTold K.begun.told (λ _. (db : Database) → AreServed N.opened.read N.opened.pages db → AreRight K.begun.entries db body.now result.replies result.outcome) }
+    ensures reason { HasReason result.store.desk result.outcome }
+    ensures session { IsToldBy (entries_in result.store.events) session.old session.new result.outcome }
+    ensures resting { IsResting result.store }
+{
+    pager.rests();
+    let Left { store, number } = pager.give_up(session);
+    Ran {
+        store,
+        outcome: Outcome::Rollback { number },
+        replies,
+    }
+}
 
 // Carries out the statements of a transaction that has just begun, once page 1 is known.
 fn carry_known<D: Disk, N: Opening, K: Beginning>(
@@ -35,6 +130,7 @@ fn carry_known<D: Disk, N: Opening, K: Beginning>(
     ensures done { OnOk result (JustifiedIn ⟦<Pager<D, N, K> as Pages>⟧ N.opened.read
         (record { kind = kind; statements = statements.now; replies = replies.new.items }) pager.new) }
     ensures front { IsFront ⟦<Pager<D, N, K> as Pages>⟧ N.opened.read kind statements.now replies.new.items pager.new }
+    ensures own { IfErr result IsOwnFault }
     ensures short { IfErr result (OnTreeFull (length replies.new.items < length statements.now)) }
 {
     match pager.knows_front() {
