@@ -4,3 +4,4 @@ pub mod Below
 pub mod Ending
 pub mod Lists
 pub mod Facts
+pub mod Working

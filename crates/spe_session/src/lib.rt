@@ -6,15 +6,23 @@
 
 mod alone;
 mod beginning;
+mod commit;
+mod ending;
+mod fault;
 mod fetch;
 mod leaving;
 mod page_set;
 mod pager;
 mod paging;
 mod put;
+mod saving;
+mod sealing;
 mod show;
+mod writing;
 
 pub use alone::alone_law;
 pub use beginning::Beginning;
+pub use commit::Ended;
+pub use fault::{EndFailed, EndFault};
 pub use leaving::Left;
 pub use pager::{Pager, Parts};
