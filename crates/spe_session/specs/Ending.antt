@@ -1,11 +1,13 @@
 -- What a transaction leaves that ends.
-use Rattle.std.specs.Prelude.{◌≡◌, ℕ, List, [], ◌∷◌, ◌++◌, Option, Some, None, IfSome, Result, Ok, Err, false, max}
+use Rattle.std.specs.Prelude.{◌≡◌, ℕ, List, [], ◌∷◌, ◌++◌, Option, Some, None, IfSome, Result, Ok, Err, false, max, unwrap_or}
+use Rattle.std.specs.Option.{option_map}
 use Rattle.spe_model.specs.Content.{Content}
 use Rattle.spe_model.specs.Database.{Database}
 use Rattle.spe_model.specs.Justified.{Asked, Opening, ServedSince}
 use Rattle.spe_model.specs.Meaning.{replies_from, result_from}
 use Rattle.spe_model.specs.Paging.{Agrees, Given, PageMap, Paging, lay}
 use Rattle.spe_space.specs.Front.{number_in}
+use Rattle.spe_transactions.specs.Pages.{named_count}
 use Rattle.spe_store.specs.declared.log.Log.{Log}
 use Rattle.spe_store.specs.Opened.{Opened}
 use Rattle.spe_store.specs.Served.{AreServed, Entry}
@@ -65,3 +67,7 @@ IsBrokenBy session log (Some e) = (e.log ≡ log) × (e.session ≡ session)
 abbrev pub told_after : ℕ → Result ℕ EndFailed → ℕ
 told_after told (Ok number) = number
 told_after told (Err failed) = max told failed.number
+
+-- how many pages there are with some laid over them: as page 1 names, where it is among them
+abbrev pub count_after : PageMap → ℕ → ℕ
+count_after laid count = unwrap_or (option_map named_count (laid 1)) count

@@ -6,12 +6,12 @@ ghost use Rattle.spe_model.specs.Justified.{Justified, ServedSince};
 ghost use Rattle.spe_model.specs.Meaning.{replies_from, result_from};
 ghost use Rattle.spe_model.specs.Paging.{Agrees, Paging};
 ghost use Rattle.spe_served.specs.Change.{IsServed};
-ghost use Rattle.spe_store.specs.Call.{IsTied, MayEnd};
+ghost use Rattle.spe_store.specs.Call.{IsTied, MayEnd, own_count};
 ghost use Rattle.spe_store.specs.Event.{broken_in, entries_in, lives_in, open_in, seen_in, written_in};
 ghost use Rattle.spe_store.specs.Served.{asked_of};
 ghost use Rattle.spe_store.specs.Store.{IsOf};
 ghost use Rattle.spe_session.specs.Alone.{IsAlone, IsIdle};
-ghost use Rattle.spe_session.specs.Ending.{AddsEntry, IsBrokenBy, IsLeft, WasServed, told_after};
+ghost use Rattle.spe_session.specs.Ending.{AddsEntry, IsBrokenBy, IsLeft, WasServed, count_after, told_after};
 ghost use Rattle.spe_session.specs.Working.{IsFault};
 
 use crate::beginning::Beginning;
@@ -70,6 +70,8 @@ fn end<D: Disk, N: Opening>(
     ensures number { IfOk result.answer (λ number. number ≡ length (entries_in result.store.events)) }
     ensures entry { OnOk result.answer (AddsEntry (entries_in store.events) (entries_in result.store.events) session.old.number log.now (written_in store.events pass.id)) }
     ensures left { OnErr result.answer (entries_in result.store.events ≡ entries_in store.events) }
+    ensures counted { OnOk result.answer (result.store.count ≡ own_count store pass.id) }
+    ensures uncounted { OnErr result.answer (result.store.count ≡ store.count) }
     ensures failed { IfErr result.answer (λ failed. failed.number ≡ length (entries_in result.store.events)) }
     ensures cause { IfErr result.answer (λ failed. IsFault N.opened result.store failed.why) }
     ensures going { OnOk result.answer (result.store.desk.stopped ≡ None) }
@@ -108,6 +110,8 @@ impl<D: Disk, N: Opening, K: Beginning> Pager<D, N, K> {
         ensures number { IfOk result.answer (λ number. number ≡ length (entries_in result.store.events)) }
         ensures committed { OnOk result.answer (AddsEntry K.begun.entries (entries_in result.store.events) session.old.number log.now (⟦<Pager<D, N, K> as Pages>⟧.laid self)) }
         ensures left { OnErr result.answer (entries_in result.store.events ≡ K.begun.entries) }
+        ensures counted { OnOk result.answer (result.store.count ≡ count_after (⟦<Pager<D, N, K> as Pages>⟧.laid self) K.begun.count) }
+        ensures uncounted { OnErr result.answer (result.store.count ≡ K.begun.count) }
         ensures failed { IfErr result.answer (λ failed. failed.number ≡ length K.begun.entries) }
         ensures cause { IfErr result.answer (λ failed. IsFault N.opened result.store failed.why) }
         ensures going { OnOk result.answer (result.store.desk.stopped ≡ None) }

@@ -2,7 +2,7 @@
 
 ghost use Rattle.std.specs.Prelude.{◌≡◌, ◌≤◌, ℕ, List, None, Some, IfErr, IfOk, OnErr, OnOk, false, length, true};
 ghost use Rattle.spe_model.specs.Justified.{Justified};
-ghost use Rattle.spe_store.specs.Call.{IsTied, MayEnd};
+ghost use Rattle.spe_store.specs.Call.{IsTied, MayEnd, own_count};
 ghost use Rattle.spe_store.specs.Event.{broken_in, entries_in, lives_in, open_in, seen_in, written_in};
 ghost use Rattle.spe_store.specs.Served.{asked_of};
 ghost use Rattle.spe_session.specs.Alone.{IsAlone};
@@ -28,6 +28,8 @@ pub(crate) fn seal<D: Disk, N: Opening>(
     requires unbroken { broken_in store.old.events ≡ None }
     ensures number { IfOk result (λ number. number ≡ length (entries_in store.new.events)) }
     ensures entry { OnOk result (AddsEntry (entries_in store.old.events) (entries_in store.new.events) session.old.number log.now (written_in store.old.events pass.old.id)) }
+    ensures counted { OnOk result (store.new.count ≡ own_count store.old pass.old.id) }
+    ensures uncounted { OnErr result (store.new.count ≡ store.old.count) }
     ensures going { OnOk result (store.new.desk.stopped ≡ None) }
     ensures closed { OnOk result (open_in store.new.events pass.old.id ≡ false) }
     ensures alone { IsAlone store.new.events pass.old.id }

@@ -4,7 +4,7 @@ use Rattle.spe_model.specs.Paging.{Given, PageMap}
 use Rattle.spe_store.specs.Event.{entries_in, seen_in, written_in}
 use Rattle.spe_store.specs.Served.{Entry, asked_of}
 use Rattle.spe_session.specs.Alone.{IsAlone}
-use Rattle.spe_session.specs.Ending.{AddsEntry, EndsServed}
+use Rattle.spe_session.specs.Ending.{AddsEntry, EndsServed, count_after}
 use Rattle.spe_session.specs.Pages.{laid_in}
 use Rattle.spe_session.specs.Working.{BeginsSo}
 use Rattle.spe_session.proofs.CommitLemmas.{begins_so, ends_may, ends_right}
@@ -63,3 +63,15 @@ returns-in-Ok-clause-committed g c =
     let after = entries_in c.end.result.store.events in
     subst (λ (es : List Entry). OnOk c.end.result.answer (AddsEntry es after c.args.session.now.number c.args.log.now laid)) (e.carries.entries ∙ s.commits)
     (subst (λ (w : PageMap). OnOk c.end.result.answer (AddsEntry (entries_in st.events) after c.args.session.now.number c.args.log.now w)) written c.end.ensures.entry)
+
+pub returns-in-Ok-clause-counted : goal.returns-in-Ok-clause-counted
+returns-in-Ok-clause-counted g c =
+    let s = c.args.self in
+    let e = c.in-Ok.ensures in
+    let st = c.put_all.new.store in
+    let id = c.put_all.new.pass.id in
+    let laid : PageMap = laid_in s.store.count s.pages s.size s.dirty in
+    let written : written_in st.events id ≡ laid = ap (λ (n : ℕ). written_in st.events n) e.id ∙ fun_ext e.written in
+    let new = c.end.result.store.count in
+    subst (λ (n : ℕ). OnOk c.end.result.answer (new ≡ count_after laid n)) (e.counted ∙ s.counted)
+    (subst (λ (w : PageMap). OnOk c.end.result.answer (new ≡ count_after w st.count)) written c.end.ensures.counted)
