@@ -1,7 +1,11 @@
+pub mod CommitLemmas
+pub mod EndingLemmas
 pub mod EventLemmas
 pub mod FrontLemmas
 pub mod PageLemmas
+pub mod NowLemmas
 pub mod OrderLemmas
+pub mod WorkingLemmas
 pub mod StandLemmas
 pub mod FreeLemmas
 pub mod AllocLemmas

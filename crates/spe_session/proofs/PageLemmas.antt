@@ -1,7 +1,7 @@
 -- What a pager shows of its pages.
 use Rattle.std.proofs.Common.{inl, inr, ◌≡◌, ◌≢◌, ◌≤◌, ◌∙◌, ℕ, List, [], ◌∷◌, length, All, Option, Some, None, Result, Ok, Err, OnOk, refl, sym, ap, subst, arith, ⊎_elim, unwrap_or, option_to_list}
-use Rattle.std.specs.Prelude.{IfSome, ◌&&◌, nat_lt, nat_le, Bool}
-use Rattle.std.proofs.lemmas.Bool.{cases_eq, le-leb, le-ltb}
+use Rattle.std.specs.Prelude.{IfSome, ◌&&◌, nat_lt, nat_le, Bool, ◌<◌, is_some, replicate, true, false, if◌then◌else◌}
+use Rattle.std.proofs.lemmas.Bool.{cases_eq, le-leb, le-ltb, lt-leb, lt-ltb}
 use Rattle.std.proofs.lemmas.List.Elements.{All-cons, All-head, All-nil}
 use Rattle.spe_model.specs.Paging.{Given, PageMap, Paging}
 use Rattle.spe_space.specs.Free.{DifferAt}
@@ -109,3 +109,36 @@ gone_same page room a b c fresh first second n = ⊎_elim
     (λ (e : n ≡ page). ap (bytes_at c) e ∙ second.here ∙ sym fresh ∙ sym (ap (bytes_at a) e))
     (λ (other : n ≢ page). second.other n other ∙ first.other n other)
     (cases_eq n page)
+
+-- a page that was added: as it was put, or zeros
+pub laid_added : (base pages size page : ℕ) (dirty : List (ℕ × List ℕ)) (bytes zeros : List ℕ) → base < page → page ≤ pages → bytes ≡ unwrap_or (bytes_at dirty page) zeros → zeros ≡ replicate size 0
+    → laid_in base pages size dirty page ≡ Some bytes
+laid_added base pages size page dirty bytes zeros above within is blank = by_put (bytes_at dirty page) refl
+  where
+    by_put : (o : Option (List ℕ)) → bytes_at dirty page ≡ o → laid_in base pages size dirty page ≡ Some bytes
+    by_put (Some own) there = rw there (ap Some (sym (is ∙ ap (λ (x : Option (List ℕ)). unwrap_or x zeros) there)))
+    by_put None none =
+        rw (none, lt-ltb base page above, le-leb page pages within) (ap Some (sym (is ∙ ap (λ (x : Option (List ℕ)). unwrap_or x zeros) none ∙ blank)))
+
+-- none of these pages was added
+pub laid_old : (base pages size page : ℕ) (dirty : List (ℕ × List ℕ)) → page ≤ base → laid_in base pages size dirty page ≡ bytes_at dirty page
+laid_old base pages size page dirty low = by_put (bytes_at dirty page) refl
+  where
+    by_put : (o : Option (List ℕ)) → bytes_at dirty page ≡ o → laid_in base pages size dirty page ≡ o
+    by_put (Some own) there = rw there refl
+    by_put None none = laid_none base pages size dirty page none low
+
+none_added : (b : Bool) (zeros : List ℕ) → (if b && false then Some zeros else None) ≡ None
+none_added true zeros = refl
+none_added false zeros = refl
+
+-- there is no page above all
+pub laid_above : (base pages size page : ℕ) (dirty : List (ℕ × List ℕ)) → AreUpTo pages dirty → pages < page → laid_in base pages size dirty page ≡ None
+laid_above base pages size page dirty placed above = by_put (bytes_at dirty page) refl
+  where
+    by_put : (o : Option (List ℕ)) → bytes_at dirty page ≡ o → laid_in base pages size dirty page ≡ None
+    by_put (Some own) there = absurd (omega (arith, above, placed page own there))
+    by_put None none = rw (none, lt-leb page pages above) (none_added (nat_lt base page) (replicate size 0))
+
+pub laid_fresh : (base pages size page : ℕ) (dirty : List (ℕ × List ℕ)) → base < page → page ≤ pages → is_some (laid_in base pages size dirty page) ≡ true
+laid_fresh base pages size page dirty above within = ap is_some (laid_added base pages size page dirty (unwrap_or (bytes_at dirty page) (replicate size 0)) (replicate size 0) above within refl refl)

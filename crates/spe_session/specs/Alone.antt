@@ -1,5 +1,5 @@
 -- What is so of the transactions of a store with one client.
-use Rattle.std.specs.Prelude.{◌≡◌, ◌≢◌, ℕ, List, [], ◌∷◌, Option, Some, None, true, false}
+use Rattle.std.specs.Prelude.{◌≡◌, ◌≢◌, ℕ, List, [], ◌∷◌, None, true, false}
 use Rattle.spe_store.specs.Event.{Event, journalled_in, lives_in, open_in, out_in, seen_in, written_in}
 use Rattle.spe_store.specs.Event.Event.{Begun}
 use Rattle.spe_session.specs.Below.{IsUnwritten}

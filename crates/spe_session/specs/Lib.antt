@@ -7,3 +7,4 @@ pub mod Facts
 pub mod Carried
 pub mod Front
 pub mod Transaction
+pub mod Working

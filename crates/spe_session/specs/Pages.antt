@@ -1,5 +1,5 @@
 -- Pages with their bytes, and what a pager shows of them.
-use Rattle.std.specs.Prelude.{◌≡◌, ◌≢◌, ◌≤◌, ℕ, ◌&&◌, nat_lt, nat_le, Bool, List, [], ◌∷◌, ◌<◌, length, replicate, take, Option, Some, None, option_to_list, is_some, true, not, ◌||◌, if◌then◌else◌}
+use Rattle.std.specs.Prelude.{◌≡◌, ◌≢◌, ◌≤◌, ℕ, ◌&&◌, nat_lt, nat_le, Bool, List, [], ◌∷◌, ◌<◌, length, replicate, take, Option, Some, None, option_to_list, is_some, not, ◌||◌, if◌then◌else◌}
 use Rattle.std.specs.Borrow.{Bor}
 use Rattle.std.specs.BTreeMap.{is_at}
 use Rattle.std.specs.Map.{lookup}

@@ -1,5 +1,5 @@
 -- A transaction over a store, from its begin to its end.
-use Rattle.std.specs.Prelude.{◌≡◌, ◌⊎◌, ◌+◌, ◌*◌, ◌^◌, ◌<◌, ◌≤◌, ℕ, true, List, [], ◌∷◌, ◌++◌, length, take, Option, None, Some, IfSome}
+use Rattle.std.specs.Prelude.{◌≡◌, ◌⊎◌, ◌+◌, ◌*◌, ◌^◌, ◌<◌, ◌≤◌, ℕ, true, List, [], ◌∷◌, ◌++◌, length, take, Option, None, Some, IfSome, Result, Ok, Err}
 use Rattle.spe_model.specs.declared.reply.Reply.{Reply}
 use Rattle.spe_model.specs.declared.transaction.End.TheVariants as ends
 use Rattle.spe_model.specs.declared.transaction.Tx.{Tx}
@@ -22,6 +22,9 @@ use Rattle.spe_store.specs.Event.{entries_in}
 use Rattle.spe_store.specs.Opened.{Opened}
 use Rattle.spe_store.specs.Served.{AreServed, Entry, Says, database_after, pages_of}
 use Rattle.spe_store.specs.Store.{AreSeen, Store}
+use Rattle.spe_session.specs.declared.fault.EndFailed.{EndFailed}
+use Rattle.spe_session.specs.declared.fault.EndFault.{EndFault}
+use Rattle.spe_session.specs.declared.fault.EndFault.TheVariants as ends_by
 use Rattle.spe_session.specs.Alone.{IsIdle}
 use Rattle.spe_session.specs.Below.{admits_own}
 
@@ -129,3 +132,14 @@ outcome_of number (Corrupt page) = Fault number (causes.Corrupt page)
 abbrev pub IsOwnFault : TreeFault → Type 0
 IsOwnFault (Space f) = admits_own f ≡ true
 IsOwnFault (Corrupt page) = Unit {0}
+
+-- the outcome of a transaction that was to commit and did not
+abbrev pub failed_outcome : (number : ℕ) → EndFault → Outcome
+failed_outcome number ends_by.Read = Fault number causes.Read
+failed_outcome number (ends_by.Stopped op) = Fault number (causes.Stopped op)
+failed_outcome number ends_by.Memory = Memory number
+
+-- the outcome of a transaction that was to commit
+abbrev pub outcome_after : Result ℕ EndFailed → Outcome
+outcome_after (Ok number) = Commit number
+outcome_after (Err failed) = failed_outcome failed.number failed.why

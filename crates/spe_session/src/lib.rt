@@ -1,12 +1,16 @@
 //! Transactions of one client over a store.
 //!
 //! A pager shows the pages of a transaction to all that works on pages: it reads each page once, and keeps
-//! what is put until the transaction ends.
+//! what is put until the transaction ends. A transaction carries out its statements over it, and commits what
+//! was put, or is given up.
 #![tactic(auto)]
 
 mod alone;
 mod beginning;
 mod carrying;
+mod commit;
+mod ending;
+mod fault;
 mod fetch;
 mod front;
 mod leaving;
@@ -16,11 +20,17 @@ mod pager;
 mod paging;
 mod put;
 mod resting;
+mod saving;
+mod sealing;
 mod show;
 mod transaction;
+mod writing;
 
 pub use alone::alone_law;
 pub use beginning::Beginning;
 pub use carrying::carry_out;
+pub use commit::Ended;
+pub use fault::{EndFailed, EndFault};
 pub use leaving::Left;
 pub use pager::{Pager, Parts};
+pub use transaction::{Ran, Turn};

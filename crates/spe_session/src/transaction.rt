@@ -11,16 +11,19 @@ ghost use Rattle.spe_frame.specs.Times.{times};
 ghost use Rattle.spe_exec.specs.Justifying.{JustifiedIn};
 ghost use Rattle.spe_exec.specs.Writes.{is_built};
 ghost use Rattle.spe_session.specs.Carried.{IsFront};
-ghost use Rattle.spe_session.specs.Transaction.{AreRight, EndsAs, EntersBy, HasReason, IsOwnFault, IsResting, IsToldBy, OnTreeFull, number_of, outcome_of};
+ghost use Rattle.spe_session.specs.Ending.{WasServed};
+ghost use Rattle.spe_session.specs.Transaction.{AreRight, EndsAs, EntersBy, HasReason, IsOwnFault, IsResting, IsToldBy, OnTreeFull, number_of, outcome_after, outcome_of};
 
 use crate::beginning::Beginning;
 use crate::carrying::carry_out;
+use crate::commit::Ended;
+use crate::fault::{EndFailed, EndFault};
 use crate::leaving::Left;
 use crate::pager::Pager;
 use spe_disk::Disk;
-use spe_model::{Catalog, Cause, Outcome, Replies, Reply, Statement, Tx, TxKind};
+use spe_model::{Catalog, Cause, End, Outcome, Replies, Reply, Statement, Tx, TxKind};
 use spe_space::{Pages, SpaceFault, TreeFault};
-use spe_store::{Opening, SessionSeat, Store};
+use spe_store::{Log, Opening, SessionSeat, Store};
 use std::alloc::Global;
 
 /// What became of a transaction: the store, how it ended, and the replies as far as they go.
@@ -58,7 +61,7 @@ fn outcome_of(number: u64, fault: TreeFault) -> Outcome
 }
 
 // Gives up a transaction that met a fault.
-fn fail<D: Disk, N: Opening, K: Beginning>(
+pub(crate) fn fail<D: Disk, N: Opening, K: Beginning>(
     pager: Pager<D, N, K>,
     session: &mut SessionSeat,
     body: &Tx,
@@ -112,8 +115,98 @@ fn roll_back<D: Disk, N: Opening, K: Beginning>(
     }
 }
 
+// The outcome of a transaction that was to commit.
+fn outcome_after(answer: Result<u64, EndFailed>) -> Outcome
+    ensures { result ≡ outcome_after answer }
+{
+    match answer {
+        Ok(number) => Outcome::Commit { number },
+        Err(EndFailed { number, why }) => match why {
+            EndFault::Read => Outcome::Fault {
+                number,
+                cause: Cause::Read,
+            },
+            EndFault::Stopped { op } => Outcome::Fault {
+                number,
+                cause: Cause::Stopped { op },
+            },
+            EndFault::Memory => Outcome::Memory { number },
+        },
+    }
+}
+
+/// Which transaction it is.
+#[derive(Clone, Copy, Debug, PartialEq, Eq)]
+pub struct Turn {
+    /// The client, from 1.
+    pub client: u32,
+    /// The client's transaction, from 1.
+    pub tx: u32,
+}
+
+// Commits a transaction whose statements were all carried out.
+fn commit_all<D: Disk, N: Opening, K: Beginning>(
+    pager: Pager<D, N, K>,
+    session: &mut SessionSeat,
+    turn: Turn,
+    body: Tx,
+    replies: Replies,
+) -> Ran<D, N>
+    requires was { WasServed N.opened }
+    requires told { session.old.told ≤ length K.begun.entries }
+    requires done { JustifiedIn ⟦<Pager<D, N, K> as Pages>⟧ N.opened.read
+        (record { kind = body.kind; statements = body.statements; replies = replies }) pager }
+    requires commits { body.end ≡ ends.Commit }
+    ensures enters { EntersBy K.begun.entries (entries_in result.store.events) turn.client turn.tx body result.replies result.outcome }
+    ensures ends { EndsAs body result.outcome }
+    ensures right { IfTold K.begun.told (λ _. (db : Database) → AreServed N.opened.read N.opened.pages db → AreRight K.begun.entries db body result.replies result.outcome) }
+    ensures reason { HasReason result.store.desk result.outcome }
+    ensures session { IsToldBy (entries_in result.store.events) session.old session.new result.outcome }
+    ensures resting { IsResting result.store }
+{
+    pager.rests();
+    let log = Log {
+        client: turn.client,
+        tx: turn.tx,
+        body,
+        replies,
+    };
+    let Ended { store, answer } = pager.commit(session, &log);
+    let Log { replies, .. } = log;
+    Ran {
+        store,
+        outcome: outcome_after(answer),
+        replies,
+    }
+}
+
+// Ends a transaction whose statements were all carried out, as it asks.
+pub(crate) fn finish<D: Disk, N: Opening, K: Beginning>(
+    pager: Pager<D, N, K>,
+    session: &mut SessionSeat,
+    turn: Turn,
+    body: Tx,
+    replies: Replies,
+) -> Ran<D, N>
+    requires was { WasServed N.opened }
+    requires told { session.old.told ≤ length K.begun.entries }
+    requires done { JustifiedIn ⟦<Pager<D, N, K> as Pages>⟧ N.opened.read
+        (record { kind = body.kind; statements = body.statements; replies = replies }) pager }
+    ensures enters { EntersBy K.begun.entries (entries_in result.store.events) turn.client turn.tx body result.replies result.outcome }
+    ensures ends { EndsAs body result.outcome }
+    ensures right { IfTold K.begun.told (λ _. (db : Database) → AreServed N.opened.read N.opened.pages db → AreRight K.begun.entries db body result.replies result.outcome) }
+    ensures reason { HasReason result.store.desk result.outcome }
+    ensures session { IsToldBy (entries_in result.store.events) session.old session.new result.outcome }
+    ensures resting { IsResting result.store }
+{
+    match body.end {
+        End::Commit => commit_all(pager, session, turn, body, replies),
+        End::Rollback => roll_back(pager, session, &body, replies),
+    }
+}
+
 // Carries out the statements of a transaction that has just begun, once page 1 is known.
-fn carry_known<D: Disk, N: Opening, K: Beginning>(
+pub(crate) fn carry_known<D: Disk, N: Opening, K: Beginning>(
     alloc: Global,
     pager: &mut Pager<D, N, K>,
     catalog: &Catalog,

@@ -1,4 +1,4 @@
-use Rattle.std.proofs.Common.{rules, ◌≡◌, ◌≤◌, ◌∙◌, List, ℕ, Result, Ok, Err, OnOk, OnErr, Some, ap, arith, length, subst, sym, true}
+use Rattle.std.proofs.Common.{rules, ◌≡◌, ◌∙◌, List, ℕ, Result, Ok, Err, OnOk, OnErr, Some, ap, arith, length, subst, sym, true}
 use Rattle.spe_session.specs.Pages.{AreSized, AreUpTo, HasFrontOf, Sets, are_numbered, front_read, front_shown}
 use Rattle.spe_session.proofs.FrontLemmas.{put_numbered, put_one}
 use Rattle.spe_session.proofs.PageLemmas.{placed_put, sized_put}

@@ -1,4 +1,4 @@
-use Rattle.std.proofs.Common.{◌≡◌, ◌∙◌, ℕ, List, Option, option_to_list, ap, sym, subst, length}
+use Rattle.std.proofs.Common.{◌≡◌, ◌∙◌, Option, option_to_list, ap, sym, subst, length}
 use Rattle.spe_store.specs.Event.{seen_in}
 use Rattle.spe_store.specs.Pass.{Pass}
 use Rattle.spe_model.specs.Paging.{Paging}
