@@ -1,15 +1,15 @@
 -- A transaction that has carried out its statements, or some of them.
 use Rattle.std.proofs.Common.{◌≡◌, ◌+◌, ◌<◌, ◌≤◌, ◌∙◌, ℕ, List, [], ◌∷◌, ◌++◌, length, take, All, Option, Some, None, Result, Ok, Err, OnOk, refl, sym, ap, subst, arith}
-use Rattle.std.specs.Prelude.{IfErr}
-use Rattle.std.proofs.lemmas.List.{take_all}
+use Rattle.std.specs.Prelude.{IfErr, IfOk, OnErr, max}
+use Rattle.std.proofs.lemmas.List.{length-append, take_all}
 use Rattle.std.proofs.lemmas.List.Elements.{All-cons, All-head, All-nil, All-tail}
 use Rattle.spe_model.specs.declared.reply.Reply.{Reply}
 use Rattle.spe_model.specs.declared.statement.Statement.{Statement}
 use Rattle.spe_model.specs.declared.transaction.Tx.{Tx}
 use Rattle.spe_model.specs.declared.transaction.TxKind.{TxKind}
 use Rattle.spe_model.specs.Database.{Database}
-use Rattle.spe_model.specs.Meaning.{meaning, replies_from}
-use Rattle.spe_model.specs.Paging.{Agrees, Given, Paging}
+use Rattle.spe_model.specs.Meaning.{meaning, replies_from, replies_of}
+use Rattle.spe_model.specs.Paging.{Agrees, Given, PageMap, Paging}
 use Rattle.spe_model.specs.Trace.{History}
 use Rattle.spe_space.specs.declared.pages.Pages.{Ghosts}
 use Rattle.spe_space.specs.declared.fault.SpaceFault.{SpaceFault}
@@ -23,7 +23,13 @@ use Rattle.spe_store.specs.Served.{AreServed, Entry, database_after, pages_of}
 use Rattle.spe_store.specs.Store.{AreSeen, IfTold}
 use Rattle.spe_exec.specs.Justifying.{JustifiedIn}
 use Rattle.spe_session.specs.Carried.{IsFront}
-use Rattle.spe_session.specs.Transaction.{AreFront, AreRight, IsOwnFault, OnTreeFull, RestsOn, outcome_of}
+use Rattle.spe_store.specs.declared.log.Log.{Log}
+use Rattle.spe_store.specs.declared.session.SessionSeat.{SessionSeat}
+use Rattle.spe_session.specs.declared.fault.EndFailed.{EndFailed}
+use Rattle.spe_session.specs.declared.fault.EndFault.{EndFault}
+use Rattle.spe_session.specs.declared.fault.EndFault.TheVariants as ends_by
+use Rattle.spe_session.specs.Ending.{AddsEntry, told_after}
+use Rattle.spe_session.specs.Transaction.{AreFront, AreRight, IsOwnFault, IsToldBy, OnTreeFull, RestsOn, failed_outcome, number_of, outcome_after, outcome_of}
 
 pub on_ok : {X E : Type 0} (r : Result X E) (A B : Type 0) → (A → B) → OnOk r A → OnOk r B
 on_ok (Ok x) A B f a = f a
@@ -108,3 +114,41 @@ fault_right entries db body replies number fault is own short front =
     by_fault (trees.Space (faults.Corrupt page)) own short front = front
     by_fault (trees.Space faults.Memory) own short front = front
     by_fault (trees.Corrupt page) own short front = front
+
+whole_front : (db : Database) (body : Tx) (replies : List Reply) → replies ≡ replies_of db body → AreFront db body replies
+whole_front db body replies all = (length (replies_of db body), all ∙ sym (take_all (length (replies_of db body)) (replies_of db body) (omega arith)))
+
+-- the replies of a transaction that was to commit are right, whether it did or not
+pub commit_right : (entries : List Entry) (db : Database) (body : Tx) (replies : List Reply) (answer : Result ℕ EndFailed)
+    → IfErr answer (λ (f : EndFailed). f.number ≡ length entries) → replies ≡ replies_of (database_after db entries) body → AreRight entries db body replies (outcome_after answer)
+commit_right entries db body replies (Ok number) failed all = all
+commit_right entries db body replies (Err f) failed all = by_why f.why
+    (subst (λ (es : List Entry). AreFront (database_after db es) body replies) (sym (all_taken entries f.number failed)) (whole_front (database_after db entries) body replies all))
+  where
+    by_why : (why : EndFault) → AreFront (database_after db (take f.number entries)) body replies → AreRight entries db body replies (failed_outcome f.number why)
+    by_why ends_by.Read front = front
+    by_why (ends_by.Stopped op) front = front
+    by_why ends_by.Memory front = front
+
+failed_number : (number : ℕ) (why : EndFault) → number_of (failed_outcome number why) ≡ number
+failed_number number ends_by.Read = refl
+failed_number number (ends_by.Stopped op) = refl
+failed_number number ends_by.Memory = refl
+
+-- what its session was told
+pub commit_told : (before after : List Entry) (old new : SessionSeat) (answer : Result ℕ EndFailed) (session : ℕ) (log : Log) (wrote : PageMap)
+    → new ≡ record old { told = told_after old.told answer } → old.told ≤ length before → OnOk answer (AddsEntry before after session log wrote) → OnErr answer (after ≡ before)
+    → IfOk answer (λ (n : ℕ). n ≡ length after) → IfErr answer (λ (f : EndFailed). f.number ≡ length before) → IsToldBy after old new (outcome_after answer)
+commit_told before after old new (Ok number) session log wrote is low adds left counted failed =
+    let longer : length after ≡ length (before ++ record { log = log; session = session; ops = adds.ops; wrote = wrote } ∷ []) = ap (λ (es : List Entry). length es) adds.is in
+    let one = length-append before (record { log = log; session = session; ops = adds.ops; wrote = wrote } ∷ []) in
+    record { number = is; low = omega (arith, low, longer, one, counted); high = omega (arith, counted) }
+commit_told before after old new (Err f) session log wrote is low adds left counted failed =
+    let same : length after ≡ length before = ap (λ (es : List Entry). length es) left in
+    let told : max old.told f.number ≡ f.number = omega (arith, low, failed) in
+    let number : number_of (failed_outcome f.number f.why) ≡ f.number = failed_number f.number f.why in
+    record {
+      number = is ∙ ap (λ (n : ℕ). record old { told = n }) (told ∙ sym number);
+      low = omega (arith, low, failed, number);
+      high = omega (arith, same, failed, number);
+    }
