@@ -5,5 +5,6 @@ pub mod DropLemmas
 pub mod FewerLemmas
 pub mod LeafEndLemmas
 pub mod MergeLemmas
+pub mod PagesLemmas
 pub mod RootLemmas
 pub mod RowLemmas

@@ -12,6 +12,7 @@ mod child;
 mod leaf;
 mod leaf_end;
 mod merge;
+mod pages;
 mod root;
 mod row;
 
@@ -19,5 +20,6 @@ pub use cell::free_cell;
 pub use leaf::drop_cell;
 pub use leaf_end::drop_leaf;
 pub use merge::merge_pages;
+pub use pages::give_pages;
 pub use root::lower_root;
 pub use row::take_row;
