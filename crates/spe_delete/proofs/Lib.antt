@@ -3,6 +3,7 @@ pub mod ChildLemmas
 pub mod CutLemmas
 pub mod DropLemmas
 pub mod FewerLemmas
+pub mod GatherLemmas
 pub mod LeafEndLemmas
 pub mod MergeLemmas
 pub mod PagesLemmas

@@ -1,3 +1,4 @@
+pub mod Gather
 pub mod Leaf
 pub mod Below
 pub mod Child

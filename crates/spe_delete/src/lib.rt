@@ -9,6 +9,7 @@
 mod below;
 mod cell;
 mod child;
+mod gather;
 mod leaf;
 mod leaf_end;
 mod merge;
@@ -17,6 +18,7 @@ mod root;
 mod row;
 
 pub use cell::free_cell;
+pub use gather::put_alone;
 pub use leaf::drop_cell;
 pub use leaf_end::drop_leaf;
 pub use merge::merge_pages;
