@@ -33,12 +33,12 @@ use Rattle.spe_delete.specs.Child.{DropsChild, HasEmptyLeaf, KeepsLeaf}
 use Rattle.spe_delete.specs.Leaf.{DropsCell, IsAbsent, LosesRow}
 
 -- what is said of the pages of a tree after a get was said of them before it
-was_so : {P : Type 0} (g : Ghosts P) (s a : P) (pages : Paging) (Q : ℕ → Paging → Type 0) → Reads g s a → Q (g.used a) (sight g a pages) → Q (g.used s) (sight g s pages)
+pub was_so : {P : Type 0} (g : Ghosts P) (s a : P) (pages : Paging) (Q : ℕ → Paging → Type 0) → Reads g s a → Q (g.used a) (sight g a pages) → Q (g.used s) (sight g s pages)
 was_so g s a pages Q reads is =
     subst (λ (laid : PageMap). Q (g.used s) (lay laid pages)) reads.laid (subst (λ (u : ℕ). Q u (sight g a pages)) reads.used is)
 
 -- and the other way
-is_so : {P : Type 0} (g : Ghosts P) (s a : P) (pages : Paging) (Q : ℕ → Paging → Type 0) → Reads g s a → Q (g.used s) (sight g s pages) → Q (g.used a) (sight g a pages)
+pub is_so : {P : Type 0} (g : Ghosts P) (s a : P) (pages : Paging) (Q : ℕ → Paging → Type 0) → Reads g s a → Q (g.used s) (sight g s pages) → Q (g.used a) (sight g a pages)
 is_so g s a pages Q reads is =
     subst (λ (u : ℕ). Q u (sight g a pages)) (sym reads.used) (subst (λ (laid : PageMap). Q (g.used s) (lay laid pages)) (sym reads.laid) is)
 

@@ -4,6 +4,7 @@ pub mod CutLemmas
 pub mod DropLemmas
 pub mod FewerLemmas
 pub mod GatherLemmas
+pub mod JoinLemmas
 pub mod LeafEndLemmas
 pub mod MergeLemmas
 pub mod PagesLemmas

@@ -10,6 +10,7 @@ mod below;
 mod cell;
 mod child;
 mod gather;
+mod join;
 mod leaf;
 mod leaf_end;
 mod merge;
@@ -19,6 +20,7 @@ mod row;
 
 pub use cell::free_cell;
 pub use gather::put_alone;
+pub use join::join_pages;
 pub use leaf::drop_cell;
 pub use leaf_end::drop_leaf;
 pub use merge::merge_pages;
