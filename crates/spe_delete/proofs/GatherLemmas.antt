@@ -1,12 +1,12 @@
 -- A tree that is gathered into its root.
-use Rattle.std.proofs.Common.{◌≡◌, ◌≢◌, ℕ, ◌+◌, ◌<◌, ◌≤◌, ◌∙◌, List, [], ◌∷◌, ◌++◌, Ok, length, refl, sym, ap, subst, arith}
+use Rattle.std.proofs.Common.{◌≡◌, ◌≢◌, ℕ, ◌≤◌, ◌∙◌, List, [], ◌∷◌, ◌++◌, Ok, refl, sym, ap, subst, arith}
 use Rattle.std.specs.List.{flat_map}
 use Rattle.spe_model.specs.declared.page.Cell.{Cell}
 use Rattle.spe_model.specs.declared.page.Kind.TheVariants.{TableLeaf}
 use Rattle.spe_model.specs.declared.page.PageCells.{PageCells}
 use Rattle.spe_model.specs.Paging.{Paging}
 use Rattle.spe_model.specs.Standing.{all_pages, chain_pages}
-use Rattle.spe_model.specs.Tree.{AreRows, cells_in, node_at, rows_of, tree_pages, tree_rows}
+use Rattle.spe_model.specs.Tree.{AreRows, cells_in, node_at, rows_of, tree_pages}
 use Rattle.spe_space.specs.declared.pages.Pages.{Ghosts}
 use Rattle.spe_space.specs.Calls.{sight}
 use Rattle.spe_frame.specs.Held.{AreHeld, IsOthers, IsReady, Shifts, Spares}
@@ -19,7 +19,7 @@ use Rattle.spe_cut.specs.Rows.{KeptRowsStay, RowsStay}
 use Rattle.spe_cut.specs.Run.{AreKept, alone}
 use Rattle.spe_cut.proofs.HolderLemmas.{IsMade, Reading}
 use Rattle.spe_insert.specs.Node.{LaysNode}
-use Rattle.spe_insert.proofs.LeafLemmas.{here_once, node_there}
+use Rattle.spe_insert.proofs.LeafLemmas.{node_there}
 use Rattle.spe_insert.proofs.PutBelowLemmas.{others_kept}
 use Rattle.spe_delete.specs.Gather.{Gathers, HasLeaves, IsAlone}
 

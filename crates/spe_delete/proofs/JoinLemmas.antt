@@ -1,25 +1,24 @@
 -- Two interior neighbours that become one page.
-use Rattle.std.proofs.Common.{◌≡◌, ◌≢◌, ℕ, zero, suc, ℤ, ◌+◌, ◌<◌, ◌≤◌, ◌∙◌, List, [], ◌∷◌, ◌++◌, Ok, true, length, refl, sym, ap, subst, arith, inr}
+use Rattle.std.proofs.Common.{◌≡◌, ◌≢◌, ℕ, suc, ℤ, ◌+◌, ◌≤◌, ◌∙◌, List, [], ◌∷◌, ◌++◌, Ok, true, length, refl, sym, ap, subst, arith, inr}
 use Rattle.std.proofs.lemmas.List.{length-append}
 use Rattle.spe_model.specs.declared.page.Cell.{Cell}
 use Rattle.spe_model.specs.declared.page.Kind.TheVariants.{TableInterior}
 use Rattle.spe_model.specs.declared.page.PageCells.{PageCells}
-use Rattle.spe_model.specs.Page.{ascends, page_at}
+use Rattle.spe_model.specs.Page.{ascends}
 use Rattle.spe_model.specs.Paging.{PageMap, Paging, lay}
-use Rattle.spe_model.specs.Served.{HasCells}
 use Rattle.spe_model.specs.Standing.{all_pages}
-use Rattle.spe_model.specs.Tree.{IsTree, cells_in, header_end, node_at, node_cells, node_right, rank, right_in, tree_rows}
+use Rattle.spe_model.specs.Tree.{IsTree, cells_in, header_end, node_at, rank, right_in}
 use Rattle.spe_space.specs.declared.pages.Pages.{Ghosts}
-use Rattle.spe_space.specs.Calls.{Reads, sight}
+use Rattle.spe_space.specs.Calls.{sight}
 use Rattle.spe_format.specs.Canonical.{AreWritable, IsWritable, IsWritableCell}
 use Rattle.spe_format.proofs.WritableLemmas.{taken_writable}
 use Rattle.spe_frame.specs.Held.{AreHeld, IsReady, Shifts, Spares}
-use Rattle.spe_frame.specs.Times.{AreSame, Lacks, times}
+use Rattle.spe_frame.specs.Times.{AreSame, Lacks}
 use Rattle.spe_frame.proofs.TimesLemmas.{here, times-append}
 use Rattle.spe_frame.proofs.TreeLemmas.{lower_pages}
 use Rattle.spe_cut.specs.Joined.{IsWhole, PairIsWhole}
 use Rattle.spe_cut.specs.Parts.{SeparatorIsWritable, run_cells}
-use Rattle.spe_cut.specs.Run.{AreFilledBelow, AreKept, HoldsRun, IsHolder, IsOpen, IsRun, Run, RunStays, pages_in, rows_in, separator}
+use Rattle.spe_cut.specs.Run.{AreKept, HoldsRun, IsHolder, Run, RunStays, pages_in, separator}
 use Rattle.spe_cut.proofs.HolderLemmas.{Reading}
 use Rattle.spe_insert.specs.Laws.{HaveLaws}
 use Rattle.spe_insert.proofs.PutBelowLemmas.{others_kept}

@@ -1,12 +1,12 @@
 -- Pages that are made free, one behind the other.
-use Rattle.std.proofs.Common.{◌≡◌, ◌≢◌, ℕ, ◌+◌, ◌-◌, ◌<◌, ◌≤◌, ◌∙◌, List, [], ◌∷◌, ◌++◌, take, drop, length, slice_index_or, refl, sym, ap, subst, arith}
+use Rattle.std.proofs.Common.{◌≡◌, ◌≢◌, ℕ, ◌-◌, ◌≤◌, ◌∙◌, List, [], ◌∷◌, take, drop, length, slice_index_or, refl, sym, ap, subst, arith}
 use Rattle.std.proofs.lemmas.List.{take_all}
 use Rattle.spe_model.specs.Paging.{Paging}
 use Rattle.spe_space.specs.declared.pages.Pages.{Ghosts}
 use Rattle.spe_space.specs.Calls.{Keeps}
-use Rattle.spe_frame.specs.Held.{AreHeld, IsReady, Shifts, Spares}
+use Rattle.spe_frame.specs.Held.{AreHeld, Shifts, Spares}
 use Rattle.spe_frame.specs.Laws.{HeldApart, ShiftsBeside, ShiftsBoth, SparesBeside, SparesBoth}
-use Rattle.spe_frame.specs.Times.{Lacks, times}
+use Rattle.spe_frame.specs.Times.{Lacks}
 use Rattle.spe_frame.proofs.TimesLemmas.{here}
 
 pub first_off : (left : List ℕ) (d : ℕ) → 1 ≤ length left → left ≡ slice_index_or left 0 d ∷ take (length left - 1) (drop 1 left)

@@ -1,5 +1,5 @@
 -- The children of two pages on one.
-use Rattle.std.specs.Prelude.{ℤ, ◌∷◌, ◌++◌}
+use Rattle.std.specs.Prelude.{ℤ}
 use Rattle.spe_cut.specs.Run.{Run, separator}
 use Rattle.spe_cut.specs.Split.{Cut, whole}
 

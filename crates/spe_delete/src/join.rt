@@ -22,7 +22,7 @@ use spe_cut::{join_law, room_law};
 use spe_frame::see_page;
 use spe_insert::{Run, ascends_in, below_law, children_of, run_behind, with_children};
 use spe_model::{Kind, PageCells};
-use spe_space::{Pages, PageSpace, TreeFault};
+use spe_space::{PageSpace, Pages, TreeFault};
 use std::alloc::{AllocError, Global};
 
 // The children of two neighbours with a key between them, which is the last child's of the first.
@@ -65,7 +65,12 @@ fn joined_cells(
 }
 
 // Copies a page that is held into `buf`, and answers its children.
-fn see_children<S: Pages>(alloc: Global, space: &mut S, page: u32, buf: &mut [u8]) -> Result<Run, TreeFault>
+fn see_children<S: Pages>(
+    alloc: Global,
+    space: &mut S,
+    page: u32,
+    buf: &mut [u8],
+) -> Result<Run, TreeFault>
     requires size { length buf.old ≡ S.Pages.size space.old }
     ensures node { IfOk result (λ run. (pages : Paging) → Agrees pages (S.Pages.seen space.new)
         → node_at (S.Pages.used space.old) (sight S.Pages space.old pages) page ≡ Ok (run_cells (run_of run))) }

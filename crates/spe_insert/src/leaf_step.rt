@@ -31,12 +31,7 @@ use std::alloc::{AllocError, Global};
 
 /// The cells of a leaf other than page 1, from a copy of it. Corrupt names the page, where its bytes are no
 /// legal leaf of a table. ("B-tree Pages" in SQLite's Database File Format.)
-pub fn leaf_in(
-    alloc: Global,
-    bytes: &[u8],
-    usable: usize,
-    page: u32,
-) -> Result<Cells, TreeFault>
+pub fn leaf_in(alloc: Global, bytes: &[u8], usable: usize, page: u32) -> Result<Cells, TreeFault>
     requires low { 480 ≤ usable }
     requires high { usable ≤ 65536 }
     requires inside { usable ≤ length bytes.now }

@@ -1,18 +1,16 @@
-use Rattle.std.proofs.Common.{◌≡◌, ◌≤◌, ◌∙◌, ℕ, ℤ, suc, List, [], ◌∷◌, ◌++◌, length, refl, sym, ap, subst, arith, to_z, of_z, w64, to_z-of_z, Ok}
+use Rattle.std.proofs.Common.{◌≡◌, ◌≤◌, ◌∙◌, ℕ, suc, List, ◌++◌, length, sym, ap, subst, arith, to_z, of_z, w64, to_z-of_z, Ok}
 use Rattle.spe_model.specs.Page.{ascends}
-use Rattle.spe_model.specs.Paging.{Paging}
 use Rattle.spe_model.specs.Standing.{all_pages}
 use Rattle.spe_model.specs.Tree.{node_at}
 use Rattle.spe_space.specs.Calls.{sight}
 use Rattle.spe_space.specs.Front.{number_in}
-use Rattle.spe_space.specs.declared.pages.Pages.{Ghosts}
 use Rattle.spe_write.specs.Chain.{IsSureOfTree}
-use Rattle.spe_frame.specs.Held.{Shifts, Spares}
+use Rattle.spe_frame.specs.Held.{Shifts}
 use Rattle.spe_frame.proofs.TreeLemmas.{lower_pages}
 use Rattle.spe_cut.specs.Parts.{run_cells}
 use Rattle.spe_cut.specs.Run.{Run, pages_in}
 use Rattle.spe_insert.specs.Run.{run_of}
-use Rattle.spe_delete.specs.Join.{ArePair, Joins, two_pages}
+use Rattle.spe_delete.specs.Join.{two_pages}
 use Rattle.spe_delete.specs.JoinCells.{joined_of}
 use Rattle.spe_delete.proofs.BelowLemmas.{is_so, was_so}
 use Rattle.spe_delete.proofs.LeafEndLemmas.{children_at}

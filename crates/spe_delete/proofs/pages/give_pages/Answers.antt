@@ -1,5 +1,4 @@
-use Rattle.std.proofs.Common.{◌≡◌, ◌-◌, ◌∙◌, List, ℕ, ◌∷◌, length, take, drop, slice_index_or, arith}
-
+use Rattle.std.proofs.Common.{◌∙◌}
 use Rattle.spe_delete.proofs.PagesLemmas.{first_off, freed_fails, freed_more, keeps_then, next_is}
 use Rattle.spe_delete.proofs.pages.give_pages.Goals as goal
 
