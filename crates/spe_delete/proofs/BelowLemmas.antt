@@ -1,5 +1,5 @@
 -- A tree that loses a row below one of its pages.
-use Rattle.std.proofs.Common.{◌≡◌, ◌≢◌, ℕ, zero, suc, ℤ, ◌+◌, ◌<◌, ◌≤◌, ◌∙◌, List, [], ◌∷◌, ◌++◌, Some, None, take, drop, length, refl, sym, ap, subst, arith, inl, inr}
+use Rattle.std.proofs.Common.{◌≡◌, ℕ, zero, suc, ℤ, ◌+◌, ◌<◌, ◌≤◌, ◌∙◌, List, [], ◌∷◌, ◌++◌, Some, None, take, drop, refl, sym, ap, subst, arith, inl, inr}
 use Rattle.std.proofs.lemmas.Bool.{le-ltb, lt-ltb}
 use Rattle.std.proofs.lemmas.Bool.Decides.{leb_tells}
 use Rattle.std.proofs.lemmas.List.{append-nil}
@@ -10,7 +10,7 @@ use Rattle.spe_model.specs.Standing.{all_pages}
 use Rattle.spe_model.specs.Tree.{IsTree, cells_in, child_for, node_cells, node_right, rank, right_in, row_at, tree_rows}
 use Rattle.spe_space.specs.declared.pages.Pages.{Ghosts}
 use Rattle.spe_space.specs.Calls.{Reads, sight}
-use Rattle.spe_frame.specs.Held.{AreHeld, IsReady, Shifts, Spares}
+use Rattle.spe_frame.specs.Held.{AreHeld, Shifts, Spares}
 use Rattle.spe_frame.specs.Times.{AreSame, Lacks, times}
 use Rattle.spe_frame.proofs.TimesLemmas.{here, times-append}
 use Rattle.spe_cut.specs.Gone.{RowIsTaken, without_row}
@@ -18,27 +18,26 @@ use Rattle.spe_cut.specs.Child.{RunGrows}
 use Rattle.spe_cut.specs.Run.{AreFilledBelow, AreKept, HoldsRun, IsHolder, IsRun, Place, Run, alone, high_at, inner, last, low_at, pages_beside, pages_in, rows_in, with_child, with_run}
 use Rattle.spe_cut.proofs.HolderLemmas.{Reading}
 use Rattle.spe_search.specs.declared.page.Found.{Found}
-use Rattle.spe_search.specs.declared.page.Step.TheVariants.{Child, Missing, Row}
+use Rattle.spe_search.specs.declared.page.Step.TheVariants.{Missing, Row}
 use Rattle.spe_search.proofs.FoundLemmas.{interior_leads, no_leaf}
-use Rattle.spe_insert.specs.Below.{IsPlaceFor, LacksRow}
+use Rattle.spe_insert.specs.Below.{IsPlaceFor}
 use Rattle.spe_insert.specs.Laws.{HaveLaws}
-use Rattle.spe_insert.specs.Place.{place_at, place_behind, place_for}
-use Rattle.spe_insert.specs.Run.{with_first}
+use Rattle.spe_insert.specs.Place.{place_at, place_for}
 use Rattle.spe_insert.specs.Step.{place_in}
 use Rattle.spe_insert.proofs.PlaceLemmas.{behind_first}
 use Rattle.spe_insert.proofs.LookLemmas.{IsAtChild, IsAtLeaf, IsLooked, at_leaf, tree_seen}
-use Rattle.spe_insert.proofs.PutBelowLemmas.{holder_kept, later_page, others_kept, spares_up}
+use Rattle.spe_insert.proofs.PutBelowLemmas.{holder_kept, others_kept, spares_up}
 use Rattle.spe_delete.specs.Below.{IsBare, TakesRow}
 use Rattle.spe_delete.specs.Child.{DropsChild, HasEmptyLeaf, KeepsLeaf}
-use Rattle.spe_delete.specs.Leaf.{DropsCell, IsAbsent, LosesRow}
+use Rattle.spe_delete.specs.Leaf.{DropsCell, IsAbsent}
 
 -- what is said of the pages of a tree after a get was said of them before it
-was_so : {P : Type 0} (g : Ghosts P) (s a : P) (pages : Paging) (Q : ℕ → Paging → Type 0) → Reads g s a → Q (g.used a) (sight g a pages) → Q (g.used s) (sight g s pages)
+pub was_so : {P : Type 0} (g : Ghosts P) (s a : P) (pages : Paging) (Q : ℕ → Paging → Type 0) → Reads g s a → Q (g.used a) (sight g a pages) → Q (g.used s) (sight g s pages)
 was_so g s a pages Q reads is =
     subst (λ (laid : PageMap). Q (g.used s) (lay laid pages)) reads.laid (subst (λ (u : ℕ). Q u (sight g a pages)) reads.used is)
 
 -- and the other way
-is_so : {P : Type 0} (g : Ghosts P) (s a : P) (pages : Paging) (Q : ℕ → Paging → Type 0) → Reads g s a → Q (g.used s) (sight g s pages) → Q (g.used a) (sight g a pages)
+pub is_so : {P : Type 0} (g : Ghosts P) (s a : P) (pages : Paging) (Q : ℕ → Paging → Type 0) → Reads g s a → Q (g.used s) (sight g s pages) → Q (g.used a) (sight g a pages)
 is_so g s a pages Q reads is =
     subst (λ (u : ℕ). Q u (sight g a pages)) (sym reads.used) (subst (λ (laid : PageMap). Q (g.used s) (lay laid pages)) (sym reads.laid) is)
 
@@ -147,8 +146,8 @@ child_from key [] right child is = sym (ap (λ (r : Run). r.right) is)
 child_from key (c ∷ cs) right child is = elim (leb_tells key (rank c.key)) [
   | inl hit ↦ (let mine = rw (le-ltb (rank c.key) key hit.1) at is in rw (hit.0) (sym (ap (λ (r : Run). left_of r.cells) mine)))
   | inr miss ↦ (let mine = rw (lt-ltb (rank c.key) key miss.1, one_on (place_for key cs)) at is in
-    rw (miss.0) (child_from key cs right child
-    (ap behind (sym (behind_first c (take (place_for key cs) cs) (drop (place_for key cs) cs) right child) ∙ mine))))
+      rw (miss.0) (child_from key cs right child
+      (ap behind (sym (behind_first c (take (place_for key cs) cs) (drop (place_for key cs) cs) right child) ∙ mine))))
 ]
 
 module _ {P : Type 0} (g : Ghosts P) (laws : HaveLaws g) (s a : P) (pages : Paging) (h low high page : ℕ) (rowid : ℤ) (child : ℕ)

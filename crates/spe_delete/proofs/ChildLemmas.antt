@@ -1,5 +1,5 @@
 -- A child that goes from its page.
-use Rattle.std.proofs.Common.{◌≡◌, ◌≢◌, ℕ, suc, ℤ, ◌+◌, ◌-◌, ◌*◌, ◌<◌, ◌≤◌, ◌∙◌, List, [], ◌∷◌, ◌++◌, true, Ok, length, refl, sym, ap, subst, arith, inr}
+use Rattle.std.proofs.Common.{◌≡◌, ℕ, suc, ℤ, ◌+◌, ◌-◌, ◌*◌, ◌<◌, ◌≤◌, ◌∙◌, List, true, length, sym, ap, subst, arith}
 use Rattle.std.proofs.lemmas.Bool.{le-leb}
 use Rattle.spe_model.specs.declared.page.Cell.{Cell}
 use Rattle.spe_model.specs.declared.page.Kind.TheVariants.{TableInterior}
@@ -9,7 +9,7 @@ use Rattle.spe_format.specs.Canonical.{AreWritable, IsWritable, cells_length, fi
 use Rattle.spe_cut.specs.Parts.{need, room, run_cells, without}
 use Rattle.spe_cut.specs.Run.{Run}
 use Rattle.spe_insert.specs.Place.{place_for}
-use Rattle.spe_delete.specs.Child.{fewer, fewer_of}
+use Rattle.spe_delete.specs.Child.{fewer_of}
 use Rattle.spe_delete.specs.Leaf.{IsAmong}
 use Rattle.spe_delete.proofs.FewerLemmas.{fewer_end, fewer_inner, fewer_need, fewer_writable}
 

@@ -1,8 +1,8 @@
 -- Children without one of them.
-use Rattle.std.proofs.Common.{◌≡◌, ◌⊎◌, ℕ, zero, suc, ℤ, ◌+◌, ◌-◌, ◌<◌, ◌≤◌, ◌∙◌, List, [], ◌∷◌, ◌++◌, take, drop, length, refl, sym, ap, subst, arith, inl, inr}
-use Rattle.std.proofs.lemmas.Bool.{le-leb, lt-leb, le-ltb, lt-ltb}
+use Rattle.std.proofs.Common.{◌≡◌, ℕ, zero, suc, ◌+◌, ◌<◌, ◌≤◌, ◌∙◌, List, [], ◌∷◌, ◌++◌, take, drop, length, refl, sym, ap, arith, inl, inr}
+use Rattle.std.proofs.lemmas.Bool.{le-ltb, lt-ltb}
 use Rattle.std.proofs.lemmas.Bool.Decides.{leb_tells}
-use Rattle.std.proofs.lemmas.List.{append-nil, append_assoc}
+use Rattle.std.proofs.lemmas.List.{append-nil}
 use Rattle.spe_model.specs.declared.page.Cell.{Cell}
 use Rattle.spe_model.specs.declared.page.Kind.{Kind}
 use Rattle.spe_model.specs.Standing.{AreBelow}
@@ -73,9 +73,9 @@ fewer_times own key (c ∷ []) right n some = elim (leb_tells key (rank c.key)) 
 fewer_times own key (c ∷ d ∷ ds) right n some = elim (leb_tells key (rank c.key)) [
   | inl hit ↦ rw (hit.0) (times-append n (own c.left) (fan own (d ∷ ds) right))
   | inr miss ↦ rw (miss.0) (
-    let less = fewer key (d ∷ ds) right in
-    let rest = fewer_times own key (d ∷ ds) right n (omega arith) in
-    omega (arith, rest, times-append n (own c.left) (fan own (d ∷ ds) right), times-append n (own c.left) (fan own less.cells less.right)))
+      let less = fewer key (d ∷ ds) right in
+      let rest = fewer_times own key (d ∷ ds) right n (omega arith) in
+      omega (arith, rest, times-append n (own c.left) (fan own (d ∷ ds) right), times-append n (own c.left) (fan own less.cells less.right)))
 ]
 
 pub fewer_writable : (kind : Kind) (usable key : ℕ) (cells : List Cell) (right : ℕ) → AreWritable kind usable cells → AreWritable kind usable (fewer key cells right).cells
@@ -131,10 +131,10 @@ fewer_inner key (c ∷ []) right within = elim (leb_tells key (rank c.key)) [
 fewer_inner key (c ∷ d ∷ ds) right within = elim (leb_tells key (rank c.key)) [
   | inl hit ↦ rw (hit.0, le-ltb (rank c.key) key hit.1) refl
   | inr miss ↦ (let past = rw (lt-ltb (rank c.key) key miss.1) at within in
-    let n = place_for key (d ∷ ds) in
-    rw (miss.0, lt-ltb (rank c.key) key miss.1, one_on (place_for key (d ∷ ds))) (
-    ap (with_first c) (fewer_inner key (d ∷ ds) right (omega (arith, past)))
-    ∙ ap (λ (k : ℕ). run_with (c ∷ (take n (d ∷ ds) ++ drop k (c ∷ d ∷ ds))) right) (behind_on n)))
+      let n = place_for key (d ∷ ds) in
+      rw (miss.0, lt-ltb (rank c.key) key miss.1, one_on (place_for key (d ∷ ds))) (
+      ap (with_first c) (fewer_inner key (d ∷ ds) right (omega (arith, past)))
+      ∙ ap (λ (k : ℕ). run_with (c ∷ (take n (d ∷ ds) ++ drop k (c ∷ d ∷ ds))) right) (behind_on n)))
 ]
 
 -- all but the last child
@@ -152,7 +152,7 @@ fewer_last key (c ∷ []) right some past = elim (leb_tells key (rank c.key)) [
 fewer_last key (c ∷ d ∷ ds) right some past = elim (leb_tells key (rank c.key)) [
   | inl hit ↦ (let within = rw (le-ltb (rank c.key) key hit.1) at past in absurd (omega (arith, within)))
   | inr miss ↦ (let behind = rw (lt-ltb (rank c.key) key miss.1) at past in
-    rw (miss.0) (ap (with_first c) (fewer_last key (d ∷ ds) right (omega arith) (omega (arith, behind)))))
+      rw (miss.0) (ap (with_first c) (fewer_last key (d ∷ ds) right (omega arith) (omega (arith, behind)))))
 ]
 
 abbrev left_of : List Cell → ℕ

@@ -1,5 +1,5 @@
 -- A leaf without a cell that goes from the page above it.
-use Rattle.std.proofs.Common.{◌≡◌, ◌≢◌, ℕ, zero, suc, ℤ, ◌+◌, ◌<◌, ◌≤◌, ◌∙◌, List, [], ◌∷◌, ◌++◌, Ok, true, false, take, length, refl, sym, ap, subst, arith, inr}
+use Rattle.std.proofs.Common.{◌≡◌, ◌≢◌, ℕ, zero, suc, ℤ, ◌≤◌, ◌∙◌, List, [], ◌∷◌, ◌++◌, Ok, true, false, take, length, refl, sym, ap, subst, arith, inr}
 use Rattle.std.specs.List.{flat_map}
 use Rattle.spe_model.specs.declared.page.Cell.{Cell}
 use Rattle.spe_model.specs.declared.page.Kind.TheVariants.{TableInterior}
@@ -13,11 +13,11 @@ use Rattle.spe_space.specs.declared.pages.Pages.{Ghosts}
 use Rattle.spe_space.specs.Calls.{Reads, sight}
 use Rattle.spe_format.specs.Canonical.{AreWritable, IsWritable}
 use Rattle.spe_format.proofs.WritableLemmas.{taken_writable}
-use Rattle.spe_frame.specs.Held.{AreHeld, IsReady, Shifts, Spares}
+use Rattle.spe_frame.specs.Held.{AreHeld, Shifts, Spares}
 use Rattle.spe_frame.specs.Times.{AreSame, Lacks, times}
-use Rattle.spe_frame.proofs.TimesLemmas.{here, times-append}
+use Rattle.spe_frame.proofs.TimesLemmas.{here}
 use Rattle.spe_cut.specs.Parts.{run_cells}
-use Rattle.spe_cut.specs.Run.{AreFilledBelow, AreKept, HoldsRun, IsHeld, IsHolder, IsRun, Run, RunStays, alone, pages_in, rows_in}
+use Rattle.spe_cut.specs.Run.{AreKept, HoldsRun, IsHeld, IsHolder, IsRun, Run, RunStays, alone, pages_in}
 use Rattle.spe_cut.specs.Stretch.{RunIsWider}
 use Rattle.spe_insert.specs.Below.{IsPlaceFor}
 use Rattle.spe_insert.specs.Laws.{HaveLaws}

@@ -3,7 +3,10 @@ pub mod ChildLemmas
 pub mod CutLemmas
 pub mod DropLemmas
 pub mod FewerLemmas
+pub mod GatherLemmas
+pub mod JoinLemmas
 pub mod LeafEndLemmas
 pub mod MergeLemmas
+pub mod PagesLemmas
 pub mod RootLemmas
 pub mod RowLemmas

@@ -1,5 +1,5 @@
 -- A root whose tree loses a row.
-use Rattle.std.proofs.Common.{◌≡◌, ℕ, ℤ, ◌≤◌, subst, sym, refl}
+use Rattle.std.proofs.Common.{◌≡◌, ℕ, ℤ, ◌≤◌, subst, sym}
 use Rattle.spe_model.specs.Paging.{Paging}
 use Rattle.spe_model.specs.Served.{IsGrown}
 use Rattle.spe_model.specs.Standing.{all_pages}

@@ -1,3 +1,6 @@
+pub mod Gather
+pub mod Join
+pub mod JoinCells
 pub mod Leaf
 pub mod Below
 pub mod Child

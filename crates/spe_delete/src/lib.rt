@@ -9,15 +9,21 @@
 mod below;
 mod cell;
 mod child;
+mod gather;
+mod join;
 mod leaf;
 mod leaf_end;
 mod merge;
+mod pages;
 mod root;
 mod row;
 
 pub use cell::free_cell;
+pub use gather::put_alone;
+pub use join::join_pages;
 pub use leaf::drop_cell;
 pub use leaf_end::drop_leaf;
 pub use merge::merge_pages;
+pub use pages::give_pages;
 pub use root::lower_root;
 pub use row::take_row;

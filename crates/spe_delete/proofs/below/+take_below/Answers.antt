@@ -113,7 +113,7 @@ returns-in-Ok-Row-clause-likely g t c = λ pages height low high agrees less pla
     let looked : IsLooked g.S.Pages s a pages page z (Row c.in-Ok-Row.field-0-0) = looked_is g.S.Pages s a pages page z z _ (Row c.in-Ok-Row.field-0-0) _ refl c.in-Ok-Row.field-0-is agrees_a c.in-Ok-Row.ensures.reads
     (λ ready held. c.in-Ok-Row.ensures.shifts pages agrees_a ready held) c.in-Ok-Row.ensures.given c.in-Ok-Row.ensures.wide c.in-Ok-Row.ensures.inside bytes in
     at_row g.S.Pages laws s a pages low high page z c.in-Ok-Row.field-0-0 (λ h. IsSureOfTree (number_in (sight g.S.Pages e pages)) c.in-Err-drop_cell.fault) height looked at_z
-    (λ (leaf : IsAtRow g.S.Pages s a pages low high page z). 
+    (λ (leaf : IsAtRow g.S.Pages s a pages low high page z).
     c.in-Err-drop_cell.ensures.likely pages 0 low high agrees (omega arith) leaf.placed (page_same g.S.Pages s a pages page _ looked.reads bytes) (looked.reads.sealed ∙ unsealed))
 
 pub returns-in-Ok-Some-clause-bare : goal.returns-in-Ok-Some-clause-bare
@@ -337,7 +337,7 @@ returns-in-Ok-Child-clause-likely g t c = λ pages height low high agrees less p
     let looked : IsLooked g.S.Pages s a pages page z (Child c.in-Ok-Child.child) = looked_is g.S.Pages s a pages page z z _ (Child c.in-Ok-Child.child) _ refl c.in-Ok-Child.field-0-is agrees_a c.in-Ok-Child.ensures.reads
     (λ ready held. c.in-Ok-Child.ensures.shifts pages agrees_a ready held) c.in-Ok-Child.ensures.given c.in-Ok-Child.ensures.wide c.in-Ok-Child.ensures.inside bytes in
     at_child g.S.Pages laws s a pages low high page z c.in-Ok-Child.child (λ h. IsSureOfTree (number_in (sight g.S.Pages e pages)) c.in-Err-take_below.fault) height looked at_z
-    (λ h (down : IsAtChild g.S.Pages s a pages h low high page z c.in-Ok-Child.child) is. 
+    (λ h (down : IsAtChild g.S.Pages s a pages h low high page z c.in-Ok-Child.child) is.
     c.in-Err-take_below.ensures.likely pages h _ _ agrees (less_below height h c.args.levels is less) down.at (looked.reads.sealed ∙ unsealed))
 
 pub returns-clause-spares : goal.returns-clause-spares

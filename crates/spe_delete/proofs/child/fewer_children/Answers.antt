@@ -1,4 +1,4 @@
-use Rattle.std.proofs.Common.{◌≡◌, ◌∙◌, ap, sym, arith, to_z, of_z, w64, true}
+use Rattle.std.proofs.Common.{◌≡◌, ◌∙◌, ap, sym, to_z, of_z, w64, true}
 use Rattle.spe_model.specs.Page.{ascends}
 use Rattle.spe_insert.specs.Run.{run_of}
 use Rattle.spe_delete.proofs.ChildLemmas.{fewer_fits, fewer_form}

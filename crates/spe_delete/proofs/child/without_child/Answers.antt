@@ -1,7 +1,4 @@
-use Rattle.std.proofs.Common.{◌≡◌, ◌∙◌, ◌+◌, ◌≤◌, ◌<◌, ℤ, suc, List, length, refl, sym, ap, subst, arith, to_z, of_z, w64, to_z-of_z}
-use Rattle.spe_model.specs.declared.page.Cell.{Cell}
-use Rattle.spe_model.specs.Tree.{rank}
-use Rattle.spe_insert.specs.Place.{place_for}
+use Rattle.std.proofs.Common.{◌≡◌, arith, to_z, of_z, w64, to_z-of_z}
 use Rattle.spe_delete.proofs.ChildLemmas.{end_is, inner_is}
 use Rattle.spe_delete.proofs.child.without_child.Goals as goal
 

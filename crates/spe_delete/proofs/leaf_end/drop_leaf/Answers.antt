@@ -1,14 +1,11 @@
-use Rattle.std.proofs.Common.{◌≡◌, ◌≤◌, ◌∙◌, ℕ, ℤ, zero, suc, List, [], ◌∷◌, length, refl, sym, ap, subst, arith, to_z, of_z, w64, to_z-of_z, false, true, Ok}
-use Rattle.spe_model.specs.Page.{page_at}
+use Rattle.std.proofs.Common.{◌≡◌, ◌≤◌, ◌∙◌, ℕ, ℤ, zero, suc, List, length, sym, ap, subst, arith, to_z, of_z, w64, to_z-of_z}
 use Rattle.spe_model.specs.Standing.{all_pages}
-use Rattle.spe_model.specs.Tree.{header_end, node_cells}
 use Rattle.spe_space.specs.Calls.{sight}
 use Rattle.spe_space.specs.Front.{number_in}
 use Rattle.spe_space.specs.Outcome.{IsSure}
 use Rattle.spe_format.specs.Canonical.{fits}
 use Rattle.spe_frame.specs.Held.{Spares}
 use Rattle.spe_write.specs.Chain.{IsSureOfTree}
-use Rattle.spe_cut.specs.Parts.{run_cells}
 use Rattle.spe_insert.specs.Below.{IsPlaceFor}
 use Rattle.spe_insert.proofs.LookLemmas.{page_held, tree_seen}
 use Rattle.spe_delete.specs.Child.{DropsChild, HasEmptyLeaf, KeepsLeaf}

@@ -1,4 +1,4 @@
-use Rattle.std.proofs.Common.{◌≡◌, ◌<◌, ◌∙◌, ℤ, refl, sym, subst, arith, to_z, of_z, w64, to_z-of_z}
+use Rattle.std.proofs.Common.{◌≡◌, ◌<◌, ℤ, refl, sym, subst, arith, to_z, of_z, w64, to_z-of_z}
 use lib.Signed.{mag}
 use Rattle.spe_model.specs.Standing.{pages_of_tree}
 use Rattle.spe_model.specs.Tree.{rank}
