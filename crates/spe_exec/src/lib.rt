@@ -9,6 +9,7 @@
 #![tactic(auto)]
 
 mod bounds;
+mod changing;
 mod chosen;
 mod finding;
 mod inserting;
@@ -16,6 +17,7 @@ mod justifying;
 mod reads;
 mod rows;
 mod select;
+mod updating;
 mod writes;
 
 pub use justifying::justified_more;
