@@ -1,34 +1,27 @@
 -- The records of rows that an UPDATE changes.
-use Rattle.std.proofs.Common.{◌≡◌, inl, inr, ℕ, suc, ℤ, ◌+◌, ◌-◌, ◌<◌, ◌≤◌, Bool, true, false, ◌==◌, ◌||◌, List, [], ◌∷◌, ◌++◌, All, length, map, Option, Some, None, Result, Ok, refl, sym, ap, ◌∙◌, subst, arith, append_assoc, replicate}
+use Rattle.std.proofs.Common.{◌≡◌, inl, inr, ℕ, suc, ℤ, ◌+◌, ◌-◌, ◌≤◌, Bool, true, false, List, [], ◌∷◌, ◌++◌, All, length, map, Option, Some, None, Result, Ok, refl, sym, ap, ◌∙◌, subst, arith, append_assoc, replicate}
 use Rattle.std.specs.Prelude.{nat_lt, if◌then◌else◌}
-use Rattle.std.specs.List.{enumerate_from, find, list_any, range_with_len, zip}
+use Rattle.std.specs.List.{enumerate_from, list_any}
 use Rattle.std.specs.Option.{unwrap_or}
 use Rattle.std.proofs.lemmas.Bool.{cases_Bool, ltb-false}
 use Rattle.std.proofs.lemmas.List.{append-nil, length-append, length-replicate}
 use Rattle.std.proofs.lemmas.List.Elements.{All-cons, All-head, All-nil, All-tail}
-use Rattle.spe_model.specs.declared.naming.Named.{Named}
-use Rattle.spe_model.specs.declared.naming.Named.TheVariants as named
-use Rattle.spe_model.specs.declared.statement.Set.{Set}
-use Rattle.spe_model.specs.declared.statement.Statement.{Statement}
-use Rattle.spe_model.specs.declared.statement.Statement.TheVariants.{Select, Count, Insert, Update, Delete}
 use Rattle.spe_model.specs.declared.table.TableDef.{TableDef}
 use Rattle.spe_model.specs.declared.value.Value.{Value}
 use Rattle.spe_model.specs.declared.value.Value.TheVariants.{Int, Null}
 use Rattle.spe_model.specs.Alias.{is_alias, with_alias}
-use Rattle.spe_model.specs.Assigned.{Assignment, assignments, by_column, given_to, given_values, is_to, places, targets}
 use Rattle.spe_model.specs.Database.{Row, padded}
 use Rattle.spe_model.specs.Length.{fields, record_length}
-use Rattle.spe_model.specs.Naming.{column_at, is_same, meant_by}
 use Rattle.spe_model.specs.declared.record.RecordFault.{RecordFault}
 use Rattle.spe_model.specs.Record.{record_of}
 use Rattle.spe_model.specs.Refusals.{most_record}
 use Rattle.spe_model.specs.Standing.{AreTableRows, IsTableRow, shown}
 use Rattle.spe_slow.specs.Rows.{changed_values}
 use Rattle.spe_modify.specs.declared.rows.StoredRow.{StoredRow}
-use Rattle.spe_modify.specs.Rows.{IsShort, stored_of}
+use Rattle.spe_modify.specs.Rows.{IsShort}
 use Rattle.spe_exec.specs.Changing.{AreRecords, IsFreeFrom, IsGathered, IsGathering, IsGiven, IsRecordFor, changed, is_long}
 use Rattle.spe_exec.specs.Rows.{values_in}
-use Rattle.spe_exec.proofs.RowsLemmas.{padded_done, row_is, row_number}
+use Rattle.spe_exec.proofs.RowsLemmas.{padded_done, row_is}
 
 abbrev put_at : Option ℕ → Value → ℕ × Value → Value
 put_at alias v x = if is_alias alias x.0 then v else x.1

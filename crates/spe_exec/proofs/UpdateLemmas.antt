@@ -1,7 +1,7 @@
 -- The rows of a table after an UPDATE.
-use Rattle.std.proofs.Common.{◌≡◌, inl, inr, ℕ, zero, suc, ℤ, ◌+◌, ◌<◌, ◌≤◌, Bool, true, false, ◌==◌, List, [], ◌∷◌, ◌++◌, All, filter, length, map, Option, Some, None, refl, sym, ap, ◌∙◌, subst, arith}
+use Rattle.std.proofs.Common.{◌≡◌, inl, inr, ℕ, zero, suc, ℤ, ◌+◌, ◌<◌, Bool, true, false, ◌==◌, List, [], ◌∷◌, All, filter, length, map, Option, Some, None, refl, sym, ap, ◌∙◌, arith}
 use Rattle.std.specs.Prelude.{if◌then◌else◌}
-use Rattle.std.specs.List.{AllByRecursion, find, range_with_len, zip}
+use Rattle.std.specs.List.{AllByRecursion, range_with_len, zip}
 use Rattle.std.specs.List.Sorted.{IsStrictlySortedBy}
 use Rattle.std.specs.Map.{keys_of}
 use Rattle.std.specs.Option.{option_map_or}
@@ -20,7 +20,7 @@ use Rattle.spe_model.specs.declared.statement.Statement.TheVariants.{Select, Cou
 use Rattle.spe_model.specs.declared.table.TableDef.{TableDef}
 use Rattle.spe_model.specs.declared.value.Value.{Value}
 use Rattle.spe_model.specs.Alias.{is_alias}
-use Rattle.spe_model.specs.Assigned.{Assignment, assignments, by_column, given_to, given_values, is_to, places, targets}
+use Rattle.spe_model.specs.Assigned.{assignments, by_column, given_to, given_values, places, targets}
 use Rattle.spe_model.specs.Database.{Row}
 use Rattle.spe_model.specs.Naming.{column_at, is_same, meant_by}
 use Rattle.spe_model.specs.Standing.{AreTableRows}

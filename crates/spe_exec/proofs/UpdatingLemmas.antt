@@ -1,8 +1,6 @@
 -- An open table whose rows an UPDATE changes.
-use Rattle.std.proofs.Common.{◌≡◌, inl, inr, ℕ, ℤ, ◌+◌, ◌<◌, Bool, true, false, ◌||◌, List, [], ◌∷◌, All, length, map, Option, Some, None, Result, Ok, Err, refl, sym, ap, ◌∙◌, subst, arith}
-use Rattle.std.specs.Prelude.{IfErr, IfOk}
+use Rattle.std.proofs.Common.{◌≡◌, inl, inr, ℕ, ℤ, ◌+◌, ◌<◌, true, false, List, [], ◌∷◌, All, length, map, Option, Ok, Err, refl, sym, ap, ◌∙◌, subst, arith}
 use Rattle.std.specs.List.{list_any}
-use Rattle.std.proofs.lemmas.List.{length-map}
 use Rattle.spe_model.specs.declared.reply.Refusal.TheVariants.{TooLarge}
 use Rattle.spe_model.specs.declared.reply.Reply.{Reply}
 use Rattle.spe_model.specs.declared.reply.Reply.TheVariants as replies
@@ -17,7 +15,7 @@ use Rattle.spe_model.specs.Database.{Database, Row}
 use Rattle.spe_model.specs.Length.{record_length}
 use Rattle.spe_model.specs.Paging.{Agrees, Paging}
 use Rattle.spe_model.specs.Rows.{with_rows, written}
-use Rattle.spe_model.specs.Standing.{AreTableRows, all_pages, pages_of_tree}
+use Rattle.spe_model.specs.Standing.{AreTableRows, all_pages}
 use Rattle.spe_model.specs.Statement.{conds_of, is_update}
 use Rattle.spe_model.specs.Tree.{IsTableTree, tree_rows}
 use Rattle.spe_space.specs.declared.fault.TreeFault.{TreeFault}
@@ -27,10 +25,10 @@ use Rattle.spe_space.specs.Calls.{Reads, sight}
 use Rattle.spe_space.specs.Found.{Answers, OnMissing, missing_weaker}
 use Rattle.spe_space.specs.Front.{number_in}
 use Rattle.spe_space.specs.Outcome.{IsInside}
-use Rattle.spe_frame.specs.Held.{Shifts, Spares}
+use Rattle.spe_frame.specs.Held.{Spares}
 use Rattle.spe_frame.specs.Laws.{ReadsShift, ShiftsBoth, SparesBoth, SparesMore}
 use Rattle.spe_frame.specs.Times.{times}
-use Rattle.spe_write.specs.Chain.{IsLikelyOfTree, IsSureOfTree}
+use Rattle.spe_write.specs.Chain.{IsSureOfTree}
 use Rattle.spe_served.specs.Change.{IsServed, TableAlone}
 use Rattle.spe_search.specs.declared.pairs.Pair.{Pair}
 use Rattle.spe_search.specs.Pairs.{pair_seen}
@@ -48,7 +46,7 @@ use Rattle.spe_modify.proofs.ServedLemmas.{ascend, rows_are}
 use Rattle.spe_exec.specs.Adds.{AddsChosen}
 use Rattle.spe_exec.specs.Changing.{AreRecords, changed, is_long}
 use Rattle.spe_exec.specs.Inserts.{IsSound}
-use Rattle.spe_exec.specs.Misses.{IsAskedFor, MissesChosen}
+use Rattle.spe_exec.specs.Misses.{IsAskedFor}
 use Rattle.spe_exec.specs.Run.{AreRowsOf, stored_chosen}
 use Rattle.spe_exec.specs.Updates.{CarriesRows, pages_of_written}
 use Rattle.spe_exec.proofs.GetsLemmas.{alone_read, inside_tree, own_pages, same_own, served_read, sure_fault, tree_all, tree_there}
