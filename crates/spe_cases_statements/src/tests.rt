@@ -8,3 +8,4 @@ mod replies;
 mod run;
 mod space;
 mod steps;
+mod updates;

@@ -55,10 +55,10 @@ open_read g s new pages root t agrees reads is = record {
 abbrev pub own_pages : {P : Type 0} (g : Ghosts P) (s : P) → Paging → Tree → List ℕ
 own_pages g s pages tree = pages_of_tree (g.used s) (sight g s pages) tree
 
-same_own : {P : Type 0} (g : Ghosts P) (s new : P) (pages : Paging) (tree : Tree) → Reads g s new → own_pages g s pages tree ≡ own_pages g new pages tree
+pub same_own : {P : Type 0} (g : Ghosts P) (s new : P) (pages : Paging) (tree : Tree) → Reads g s new → own_pages g s pages tree ≡ own_pages g new pages tree
 same_own g s new pages tree reads = rw (reads.used, reads.laid) refl
 
-held_read : {P : Type 0} (g : Ghosts P) (s new : P) (pages : Paging) (own : List ℕ) → Reads g s new → AreHeld g s pages own → AreHeld g new pages own
+pub held_read : {P : Type 0} (g : Ghosts P) (s new : P) (pages : Paging) (own : List ℕ) → Reads g s new → AreHeld g s pages own → AreHeld g new pages own
 held_read g s new pages own reads held = record {
   single = held.single;
   used = λ n has. let is = held.used n has in record { low = is.low; high = rw reads.laid is.high; taken = rw reads.free is.taken };
@@ -66,7 +66,7 @@ held_read g s new pages own reads held = record {
 }
 
 -- the tree stands alone as before
-abbrev alone_read : {P : Type 0} (g : Ghosts P) (opening : Opening) (s new : P) (pages : Paging) (db : Database) (name : List ℕ) (entry : Entry) (alone : TableAlone g opening s pages db name entry)
+abbrev pub alone_read : {P : Type 0} (g : Ghosts P) (opening : Opening) (s new : P) (pages : Paging) (db : Database) (name : List ℕ) (entry : Entry) (alone : TableAlone g opening s pages db name entry)
     → ShiftsBoth g → Reads g s new → Shifts g s new pages (own_pages g s pages alone.tree) (own_pages g s pages alone.tree) 0 → TableAlone g opening new pages db name entry
 alone_read g opening s new pages db name entry alone both reads gets =
     let same = same_own g s new pages alone.tree reads in

@@ -110,7 +110,7 @@ kind_in (Err fault) = TableLeaf
 other_kind : TableLeaf ≡ TableInterior → ⊥
 other_kind e = cc
 
-one_height : (usable : ℕ) (pages : Paging) (a b low high from to page : ℕ) → IsTree usable pages a low high page → IsTree usable pages b from to page → a ≡ b
+pub one_height : (usable : ℕ) (pages : Paging) (a b low high from to page : ℕ) → IsTree usable pages a low high page → IsTree usable pages b from to page → a ≡ b
 one_height usable pages zero zero low high from to page one other = refl
 one_height usable pages zero (suc b) low high from to page one other = absurd (other_kind (ap kind_in (sym one.0 ∙ other.0)))
 one_height usable pages (suc a) zero low high from to page one other = absurd (other_kind (ap kind_in (sym other.0 ∙ one.0)))

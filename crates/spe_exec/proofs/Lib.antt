@@ -13,3 +13,6 @@ mod StoredLemmas
 mod InsertLemmas
 mod OpenLemmas
 mod WritesLemmas
+pub mod ChangingLemmas
+pub mod UpdateLemmas
+pub mod UpdatingLemmas

@@ -77,7 +77,7 @@ row_cause X usable pages entry stored slice leaf e read bad =
     inl (record { row = bad.row; leaf_is = bad.leaf_is; read = read bad.row (subst (λ (xs : List Pair). Contains xs bad.row) e bad.inside); none = bad.none })
 
 -- the stored rows that are chosen are those of the chosen rows
-chosen_are : (usable : ℕ) (pages : Paging) (entry : Entry) (conds : List Cond) (stored slice : List Pair) (rows : List Row) → slice ≡ stored → (of : AreRowsOf usable pages entry rows)
+pub chosen_are : (usable : ℕ) (pages : Paging) (entry : Entry) (conds : List Cond) (stored slice : List Pair) (rows : List Row) → slice ≡ stored → (of : AreRowsOf usable pages entry rows)
     → ((height : ℕ) → IsTableTree usable pages height entry.root → map pair_seen stored ≡ stored_chosen conds (tree_rows usable pages height entry.root))
     → AreTableRows entry.table (map pair_seen slice) (chosen conds rows)
 chosen_are usable pages entry conds stored slice rows e of are =

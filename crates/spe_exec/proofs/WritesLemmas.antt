@@ -1,5 +1,5 @@
 -- A statement on the table that it names, in served pages.
-use Rattle.std.proofs.Common.{◌≡◌, ℕ, true, false, ◌&&◌, List, Option, Some, None, is_some, Result, Ok, Err, refl, sym, ap, ◌∙◌, subst}
+use Rattle.std.proofs.Common.{◌≡◌, ℕ, true, false, ◌&&◌, ◌+◌, List, Option, Some, None, is_some, Result, Ok, Err, refl, sym, ap, ◌∙◌, subst, arith}
 use Rattle.std.specs.Prelude.{IfOk}
 use Rattle.std.proofs.lemmas.Bool.{false≢true}
 use Rattle.spe_model.specs.declared.catalog.Entry.{Entry}
@@ -15,7 +15,7 @@ use Rattle.spe_model.specs.Database.{Database, Row}
 use Rattle.spe_model.specs.Justified.{Opening}
 use Rattle.spe_model.specs.Meaning.{meaning}
 use Rattle.spe_model.specs.Paging.{Paging}
-use Rattle.spe_model.specs.Rows.{table_named, with_rows}
+use Rattle.spe_model.specs.Rows.{table_named, with_rows, written}
 use Rattle.spe_model.specs.Statement.{is_insert, is_read_only, is_write, table_name}
 use Rattle.spe_space.specs.declared.fault.TreeFault.{TreeFault}
 use Rattle.spe_space.specs.declared.pages.Pages.{Ghosts}
@@ -28,28 +28,32 @@ use Rattle.spe_slow.specs.Answers.{rows_answer, table_answer}
 use Rattle.spe_slow.specs.Refused.{rowless_refusal}
 use Rattle.spe_slow.proofs.AnswersLemmas.{left_to_rows, meaning_blocked, meaning_named, meaning_unnamed, refused_by_table}
 use Rattle.spe_slow.proofs.TablesLemmas.{with_same}
+use Rattle.spe_insert.specs.Insert.{most_pages}
 use Rattle.spe_modify.specs.Row.{IsOpen, TableOf}
+use Rattle.spe_modify.specs.Rows.{SparesRows}
 use Rattle.spe_exec.specs.Finding.{entry_named}
 use Rattle.spe_exec.specs.Inserts.{Carries, Gives, IsNamed, WhereNamed, record_size}
+use Rattle.spe_exec.specs.Updates.{CarriesRows, pages_of_written}
 use Rattle.spe_exec.specs.Run.{GivesMeaning, StandsWith}
 use Rattle.spe_exec.specs.Writes.{DoesMeaning, IsLikelyWrite, Means, SparesStatement}
-use Rattle.spe_exec.proofs.GetsLemmas.{served_read, spares_read}
+use Rattle.spe_exec.proofs.GetsLemmas.{served_read}
 use Rattle.spe_exec.proofs.InsertLemmas.{no_gets}
 use Rattle.spe_exec.proofs.JustifyingLemmas.{reads_leave, served_with}
 use Rattle.spe_exec.proofs.ReadsLemmas.{open_if}
+use Rattle.spe_exec.proofs.UpdatingLemmas.{rows_read}
 use Rattle.spe_exec.proofs.TableLemmas.{FindsTable, table_found}
 
 -- a table that refuses whatever its rows are
-pub refused_table : {P : Type 0} (g : Ghosts P) (s : P) (pages : Paging) (t : TableOf) (q : Statement) (size : ℕ) (refusal : Refusal) → ShiftsNone g → SparesMore g → IsNamed g s pages t
-    → rowless_refusal t.entry.table q ≡ Some refusal → Carries g s s pages t size (table_answer t.entry.table t.rows q) (Ok (replies.Refused refusal))
-refused_table g s pages t q size refusal law more is e =
-    subst (λ (o : List Row × Reply). Carries g s s pages t size o (Ok (replies.Refused refusal))) (refused_by_table t.entry.table t.rows q refusal e)
+pub refused_table : {P : Type 0} (g : Ghosts P) (s : P) (pages : Paging) (t : TableOf) (q : Statement) (allocs : ℕ) (refusal : Refusal) → ShiftsNone g → SparesMore g → IsNamed g s pages t
+    → rowless_refusal t.entry.table q ≡ Some refusal → CarriesRows g s s pages t allocs (table_answer t.entry.table t.rows q) (Ok (replies.Refused refusal))
+refused_table g s pages t q allocs refusal law more is e =
+    subst (λ (o : List Row × Reply). CarriesRows g s s pages t allocs o (Ok (replies.Refused refusal))) (refused_by_table t.entry.table t.rows q refusal e)
     (record {
       given = record {
         reply_is = refl;
         served = subst (λ (db : Database). IsServed g t.opening s pages db) (sym (with_same t.name t.db t.entry.table t.rows is.found)) is.served;
       };
-      few = spares_read g s s pages t size more (no_gets g s pages t law is.served);
+      few = rows_read g s s pages t allocs more (no_gets g s pages t law is.served);
       likely = λ unsealed. tt;
     })
 
@@ -69,10 +73,10 @@ open_table g s pages entry t q is same none = record {
   found = is.found;
 }
 
-pub carries_table : {P : Type 0} (g : Ghosts P) (s new : P) (pages : Paging) (t : TableOf) (q : Statement) (size : ℕ) (result : Result Reply TreeFault) → rowless_refusal t.entry.table q ≡ None
-    → Carries g s new pages t size (rows_answer t.entry.table t.rows q) result → Carries g s new pages t size (table_answer t.entry.table t.rows q) result
-carries_table g s new pages t q size result none carries =
-    subst (λ (o : List Row × Reply). Carries g s new pages t size o result) (left_to_rows t.entry.table t.rows q none) carries
+pub carries_table : {P : Type 0} (g : Ghosts P) (s new : P) (pages : Paging) (t : TableOf) (q : Statement) (allocs : ℕ) (result : Result Reply TreeFault) → rowless_refusal t.entry.table q ≡ None
+    → CarriesRows g s new pages t allocs (rows_answer t.entry.table t.rows q) result → CarriesRows g s new pages t allocs (table_answer t.entry.table t.rows q) result
+carries_table g s new pages t q allocs result none carries =
+    subst (λ (o : List Row × Reply). CarriesRows g s new pages t allocs o result) (left_to_rows t.entry.table t.rows q none) carries
 
 -- the pages stand for the database, with the catalog
 pub stands_there : {P : Type 0} (g : Ghosts P) (opening : Opening) (s : P) (pages : Paging) (db : Database) → IsServed g opening s pages db
@@ -102,7 +106,7 @@ entry_found name q catalog other found n e c = ap (λ (m : List ℕ). entry_name
 
 pub named_means : {P : Type 0} (g : Ghosts P) (s new : P) (catalog : List Entry) (kind : TxKind) (q : Statement) (name : List ℕ) (entry : Entry) (result : Result Reply TreeFault) → name ≡ table_name q
     → Some entry ≡ entry_named name catalog → kind ≡ kinds.ReadWrite
-    → WhereNamed g s new entry (λ pages t. Carries g s new pages t (record_size t.entry.table t.rows q) (table_answer t.entry.table t.rows q) result) → DoesMeaning g s new catalog kind q result
+    → WhereNamed g s new entry (λ pages t. CarriesRows g s new pages t (pages_of_written (g.used s) t.entry.table (written t.entry.table t.rows q)) (table_answer t.entry.table t.rows q) result) → DoesMeaning g s new catalog kind q result
 named_means g s new catalog kind q name entry result n e writes carries opening pages db agrees lists served c =
     let found : entry_named (table_name q) opening.catalog ≡ Some entry = entry_found name q catalog opening.catalog (Some entry) n e c in
     let there : FindsTable (g.used s) (sight g s pages) (Some entry) (table_named (table_name q) db) =
@@ -115,7 +119,7 @@ named_means g s new catalog kind q name entry result n e writes carries opening 
 
 pub named_spares : {P : Type 0} (g : Ghosts P) (s new : P) (catalog : List Entry) (q : Statement) (name : List ℕ) (entry : Entry) (result : Result Reply TreeFault) → name ≡ table_name q
     → Some entry ≡ entry_named name catalog
-    → WhereNamed g s new entry (λ pages t. Carries g s new pages t (record_size t.entry.table t.rows q) (table_answer t.entry.table t.rows q) result) → SparesStatement g s new catalog q
+    → WhereNamed g s new entry (λ pages t. CarriesRows g s new pages t (pages_of_written (g.used s) t.entry.table (written t.entry.table t.rows q)) (table_answer t.entry.table t.rows q) result) → SparesStatement g s new catalog q
 named_spares g s new catalog q name entry result n e carries opening pages db agrees lists served c other is alone =
     let found : entry_named (table_name q) opening.catalog ≡ Some entry = entry_found name q catalog opening.catalog (Some entry) n e c in
     let named : entry_named (table_name q) opening.catalog ≡ Some other = ap (entry_named (table_name q)) c ∙ is in
@@ -127,7 +131,7 @@ named_spares g s new catalog q name entry result n e carries opening pages db ag
 
 pub named_likely : {P : Type 0} (g : Ghosts P) (s new : P) (catalog : List Entry) (q : Statement) (name : List ℕ) (entry : Entry) (result : Result Reply TreeFault) → name ≡ table_name q
     → Some entry ≡ entry_named name catalog
-    → WhereNamed g s new entry (λ pages t. Carries g s new pages t (record_size t.entry.table t.rows q) (table_answer t.entry.table t.rows q) result) → IsLikelyWrite g s new catalog result
+    → WhereNamed g s new entry (λ pages t. CarriesRows g s new pages t (pages_of_written (g.used s) t.entry.table (written t.entry.table t.rows q)) (table_answer t.entry.table t.rows q) result) → IsLikelyWrite g s new catalog result
 named_likely g s new catalog q name entry result n e carries opening pages db agrees lists served c unsealed =
     let found : entry_named (table_name q) opening.catalog ≡ Some entry = entry_found name q catalog opening.catalog (Some entry) n e c in
     let there : FindsTable (g.used s) (sight g s pages) (Some entry) (table_named (table_name q) db) =
@@ -141,17 +145,10 @@ refused_means : {P : Type 0} (g : Ghosts P) (s : P) (opening : Opening) (pages :
 refused_means g s opening pages db kind q refusal served e =
     subst (λ (m : Database × Reply). Means g s opening pages m (replies.Refused refusal)) (sym e) (record { reply_is = refl; served = served })
 
-writes_if : (q : Statement) → is_insert q ≡ true → is_write q ≡ true
-writes_if (Select name all columns conds) is = absurd (false≢true is)
-writes_if (Count name conds) is = absurd (false≢true is)
-writes_if (Insert name listed columns values) is = refl
-writes_if (Update name sets conds) is = refl
-writes_if (Delete name conds) is = refl
-
-pub blocked_means : {P : Type 0} (g : Ghosts P) (s : P) (catalog : List Entry) (kind : TxKind) (q : Statement) → is_insert q ≡ true → kind ≡ kinds.ReadOnly
+pub blocked_means : {P : Type 0} (g : Ghosts P) (s : P) (catalog : List Entry) (kind : TxKind) (q : Statement) → is_write q ≡ true → kind ≡ kinds.ReadOnly
     → DoesMeaning g s s catalog kind q (Ok (replies.Refused refusals.ReadOnly))
 blocked_means g s catalog kind q is reads opening pages db agrees lists served c =
-    let blocked : (is_read_only kind && is_write q) ≡ true = ap (λ (k : TxKind). is_read_only k && is_write q) reads ∙ writes_if q is in
+    let blocked : (is_read_only kind && is_write q) ≡ true = ap (λ (k : TxKind). is_read_only k && is_write q) reads ∙ is in
     refused_means g s opening pages db kind q refusals.ReadOnly served (meaning_blocked kind db q blocked)
 
 pub unnamed_means : {P : Type 0} (g : Ghosts P) (s : P) (catalog : List Entry) (kind : TxKind) (q : Statement) (name : List ℕ) → name ≡ table_name q → None ≡ entry_named name catalog
@@ -167,7 +164,7 @@ unnamed_means g s catalog kind q name n e writes opening pages db agrees lists s
 -- nothing was got or put
 pub none_spares : {P : Type 0} (g : Ghosts P) (s : P) (catalog : List Entry) (q : Statement) → ShiftsNone g → SparesMore g → SparesStatement g s s catalog q
 none_spares g s catalog q law more opening pages db agrees lists served c entry is alone =
-    spares_read g s s pages (table_of opening db (table_name q) entry alone.rows) (record_size entry.table alone.rows q) more
+    rows_read g s s pages (table_of opening db (table_name q) entry alone.rows) (pages_of_written (g.used s) entry.table (written entry.table alone.rows q)) more
     (no_gets g s pages (table_of opening db (table_name q) entry alone.rows) law served) alone
 
 pub none_likely : {P : Type 0} (g : Ghosts P) (s : P) (catalog : List Entry) (reply : Reply) → IsLikelyWrite g s s catalog (Ok reply)
@@ -182,3 +179,20 @@ read_means g s new catalog kind q (Ok reply) reads gives gets opening pages db a
       (subst (λ (entries : List Entry). StandsWith (g.used s) (number_in (sight g s pages)) (sight g s pages) entries db) c (stands_there g opening s pages db served));
   served = subst (λ (d : Database). IsServed g opening new pages d) (sym (reads_leave kind db q reads)) (served_read g opening s new pages db agrees gets served);
 }
+
+-- an INSERT writes one row
+pub insert_rows : {P : Type 0} (g : Ghosts P) (s new : P) (pages : Paging) (t : TableOf) (q : Statement) (outcome : List Row × Reply) (result : Result Reply TreeFault) → is_insert q ≡ true
+    → Carries g s new pages t (record_size t.entry.table t.rows q) outcome result
+    → CarriesRows g s new pages t (pages_of_written (g.used s) t.entry.table (written t.entry.table t.rows q)) outcome result
+insert_rows g s new pages t (Insert name listed columns values) outcome result is carries =
+    let q = Insert name listed columns values in
+    let one : most_pages (g.used s) (record_size t.entry.table t.rows q) ≡ most_pages (g.used s) (record_size t.entry.table t.rows q) + 0 = omega arith in
+    record {
+      given = carries.given;
+      few = subst (λ (n : ℕ). SparesRows g s new pages t n) one carries.few;
+      likely = carries.likely;
+    }
+insert_rows g s new pages t (Select name all columns conds) outcome result is carries = absurd (false≢true is)
+insert_rows g s new pages t (Count name conds) outcome result is carries = absurd (false≢true is)
+insert_rows g s new pages t (Update name sets conds) outcome result is carries = absurd (false≢true is)
+insert_rows g s new pages t (Delete name conds) outcome result is carries = absurd (false≢true is)

@@ -7,3 +7,5 @@ pub mod Misses
 pub mod Inserts
 pub mod Writes
 pub mod Justifying
+pub mod Changing
+pub mod Updates

@@ -9,6 +9,7 @@ use Rattle.spe_model.specs.Database.{Database}
 use Rattle.spe_model.specs.Justified.{Opening}
 use Rattle.spe_model.specs.Meaning.{meaning}
 use Rattle.spe_model.specs.Paging.{Agrees, Paging}
+use Rattle.spe_model.specs.Rows.{written}
 use Rattle.spe_model.specs.Standing.{pages_of_tree}
 use Rattle.spe_model.specs.Statement.{table_name}
 use Rattle.spe_space.specs.declared.fault.TreeFault.{TreeFault}
@@ -18,16 +19,16 @@ use Rattle.spe_space.specs.Front.{number_in}
 use Rattle.spe_frame.specs.Held.{Spares}
 use Rattle.spe_served.specs.Change.{IsServed, TableAlone}
 use Rattle.spe_served.specs.Lists.{ListsStand}
-use Rattle.spe_insert.specs.Insert.{most_pages}
 use Rattle.spe_exec.specs.Finding.{entry_named}
-use Rattle.spe_exec.specs.Inserts.{IsSound, record_size}
+use Rattle.spe_exec.specs.Inserts.{IsSound}
+use Rattle.spe_exec.specs.Updates.{pages_of_written}
 
--- the statements that are carried out: those that read, and INSERT
+-- the statements that are carried out: those that read, INSERT and UPDATE
 abbrev pub is_built : Statement → Bool
 is_built (Select name all columns conds) = true
 is_built (Count name conds) = true
 is_built (Insert name listed columns values) = true
-is_built (Update name sets conds) = false
+is_built (Update name sets conds) = true
 is_built (Delete name conds) = false
 
 -- whatever the pages are below the space, as long as they agree with what was given and are served for a database with this
@@ -45,12 +46,12 @@ pub record Means {P : Type 0} (g : Ghosts P) (new : P) (opening : Opening) (page
 abbrev pub DoesMeaning : {P : Type 0} (g : Ghosts P) (old new : P) (catalog : List Entry) (kind : TxKind) (s : Statement) (result : Result Reply TreeFault) → Type 0
 DoesMeaning g old new catalog kind s result = WhereServed g old new catalog (λ opening pages db. IfOk result (Means g new opening pages (meaning kind db s)))
 
--- All that is in use apart from the tree of the table that an INSERT names stays, and at most 128 pages are handed out, and
--- those of the chain of its row's record.
+-- All that is in use apart from the tree of the table that a statement names stays, and for each row that it writes at most
+-- 128 pages are handed out, and those of the chain of the row's record.
 abbrev pub SparesStatement : {P : Type 0} (g : Ghosts P) (old new : P) (catalog : List Entry) (s : Statement) → Type 0
 SparesStatement g old new catalog s = WhereServed g old new catalog (λ opening pages db.
     (entry : Entry) → entry_named (table_name s) catalog ≡ Some entry → (alone : TableAlone g opening old pages db (table_name s) entry)
-    → Spares g old new pages (pages_of_tree (g.used old) (sight g old pages) alone.tree) (most_pages (g.used old) (record_size entry.table alone.rows s)))
+    → Spares g old new pages (pages_of_tree (g.used old) (sight g old pages) alone.tree) (pages_of_written (g.used old) entry.table (written entry.table alone.rows s)))
 
 -- a fault is a sound one
 abbrev pub IsLikelyWrite : {P : Type 0} (g : Ghosts P) (old new : P) (catalog : List Entry) (result : Result Reply TreeFault) → Type 0

@@ -1,35 +1,66 @@
 //! Statements, those that write among them.
 
 ghost use Rattle.std.specs.Prelude.{◌≡◌, None, true, false};
-ghost use Rattle.spe_model.specs.Statement.{is_insert, is_write};
+ghost use Rattle.spe_model.specs.Rows.{written};
+ghost use Rattle.spe_model.specs.Statement.{is_write};
 ghost use Rattle.spe_space.specs.Calls.{Keeps, Reads, RefusesTree};
-ghost use Rattle.spe_slow.specs.Answers.{table_answer};
+ghost use Rattle.spe_slow.specs.Answers.{rows_answer, table_answer};
 ghost use Rattle.spe_exec.specs.Adds.{AddsOfStatement};
-ghost use Rattle.spe_exec.specs.Inserts.{Carries, IsIdle, WhereNamed, record_size};
+ghost use Rattle.spe_exec.specs.Inserts.{IsIdle, WhereNamed, WhereTable};
 ghost use Rattle.spe_exec.specs.Misses.{MissesOfStatement, MissesStatement};
 ghost use Rattle.spe_exec.specs.Run.{GivesMeaning, NamesTable};
+ghost use Rattle.spe_exec.specs.Updates.{CarriesRows, pages_of_written};
 ghost use Rattle.spe_exec.specs.Writes.{DoesMeaning, IsLikelyWrite, SparesStatement, is_built};
 
 use crate::finding::{entry_named, table_name};
 use crate::inserting::insert;
 use crate::reads::read;
+use crate::updating::update;
 use spe_frame::shifts_law;
 use spe_model::{Catalog, Entry, Refusal, Reply, Statement, TxKind};
 use spe_slow::rowless_refusal;
 use spe_space::{PageSpace, TreeFault};
 use std::alloc::Global;
 
-// What an INSERT does to the table that it names, in a transaction that may write.
+// What an INSERT or an UPDATE does to an open table, which does not refuse it whatever its rows are.
+fn write_rows<S: PageSpace>(
+    alloc: Global,
+    space: &mut S,
+    entry: &Entry,
+    statement: &Statement,
+) -> Result<Reply, TreeFault>
+    requires writes { is_write statement.now ≡ true }
+    requires built { is_built statement.now ≡ true }
+    requires refusal { S.Pages.refusal space.old ≡ None }
+    ensures carries { WhereTable S.Pages space.old space.new entry.now (λ pages t.
+        CarriesRows S.Pages space.old space.new pages t (pages_of_written (S.Pages.used space.old) t.entry.table (written t.entry.table t.rows statement.now)) (rows_answer t.entry.table t.rows statement.now) result) }
+    ensures idle { IsIdle S.Pages space.old space.new result }
+    ensures kept { Keeps S.Pages space.old space.new }
+    ensures refusal { RefusesTree S.Pages space.old space.new result }
+{
+    match statement {
+        Statement::Insert { .. } => insert(alloc, space, entry, statement),
+        Statement::Update { conds, .. } => {
+            update(alloc, space, entry, statement, conds.as_slice())
+        }
+        Statement::Select { .. } | Statement::Count { .. } | Statement::Delete { .. } => {
+            unreachable!()
+        }
+    }
+}
+
+// What an INSERT or an UPDATE does to the table that it names, in a transaction that may write.
 fn write_table<S: PageSpace>(
     alloc: Global,
     space: &mut S,
     entry: &Entry,
     statement: &Statement,
 ) -> Result<Reply, TreeFault>
-    requires insert { is_insert statement.now ≡ true }
+    requires writes { is_write statement.now ≡ true }
+    requires built { is_built statement.now ≡ true }
     requires refusal { S.Pages.refusal space.old ≡ None }
     ensures carries { WhereNamed S.Pages space.old space.new entry.now (λ pages t.
-        Carries S.Pages space.old space.new pages t (record_size t.entry.table t.rows statement.now) (table_answer t.entry.table t.rows statement.now) result) }
+        CarriesRows S.Pages space.old space.new pages t (pages_of_written (S.Pages.used space.old) t.entry.table (written t.entry.table t.rows statement.now)) (table_answer t.entry.table t.rows statement.now) result) }
     ensures idle { IsIdle S.Pages space.old space.new result }
     ensures kept { Keeps S.Pages space.old space.new }
     ensures refusal { RefusesTree S.Pages space.old space.new result }
@@ -37,11 +68,11 @@ fn write_table<S: PageSpace>(
     shifts_law(space);
     match rowless_refusal(&entry.table, statement) {
         Some(refusal) => Ok(Reply::Refused(refusal)),
-        None => insert(alloc, space, entry, statement),
+        None => write_rows(alloc, space, entry, statement),
     }
 }
 
-// What an INSERT does.
+// What an INSERT or an UPDATE does.
 fn write<S: PageSpace>(
     alloc: Global,
     space: &mut S,
@@ -49,7 +80,8 @@ fn write<S: PageSpace>(
     statement: &Statement,
     kind: TxKind,
 ) -> Result<Reply, TreeFault>
-    requires insert { is_insert statement.now ≡ true }
+    requires writes { is_write statement.now ≡ true }
+    requires built { is_built statement.now ≡ true }
     requires refusal { S.Pages.refusal space.old ≡ None }
     ensures meaning { DoesMeaning S.Pages space.old space.new catalog.now kind statement.now result }
     ensures idle { IsIdle S.Pages space.old space.new result }
@@ -68,16 +100,18 @@ fn write<S: PageSpace>(
     }
 }
 
-/// Carries out a statement, a SELECT, a COUNT or an INSERT, on the database for which the pages of a
-/// space stand, whose catalog is given.
+/// Carries out a statement, a SELECT, a COUNT, an INSERT or an UPDATE, on the database for which the
+/// pages of a space stand, whose catalog is given.
 ///
 /// A SELECT and a COUNT are as of `read`. An INSERT puts a row where the pages are served, and answers
 /// its rowid: the one given, or where there is none or it is NULL the one after the largest, 1 in a
 /// table without rows. One walk down the tree looks for the rowid and puts the row, and one before it
-/// looks for the largest where none is given. A refusal is the lowest for which there is cause, and puts
-/// nothing. At most 128 pages are handed out, and those of the record's overflow chain. The faults are
-/// those of `insert_row`, `largest` and `find`. After a fault some pages may be put, and what was put is
-/// of no use.
+/// looks for the largest where none is given. An UPDATE reads the rows that its conditions choose, makes
+/// their new records, and then gives each row its own, by one walk down the tree; it answers how many
+/// there are. A refusal is the lowest for which there is cause, and puts nothing. For each row that is
+/// written at most 128 pages are handed out, and those of its record's overflow chain. The faults are
+/// those of `insert_row`, `largest` and `find`, and of `chosen_pairs` and `replace_rows`. After a fault
+/// some pages may be put, and what was put is of no use.
 pub fn run<S: PageSpace>(
     alloc: Global,
     space: &mut S,
@@ -95,16 +129,18 @@ pub fn run<S: PageSpace>(
     ensures inside { is_write statement.now ≡ false → MissesStatement S.Pages space.old space.new catalog.now result }
     ensures still { is_write statement.now ≡ false → Reads S.Pages space.old space.new }
     ensures idle { IsIdle S.Pages space.old space.new result }
-    ensures few { is_insert statement.now ≡ true → SparesStatement S.Pages space.old space.new catalog.now statement.now }
-    ensures likely { is_insert statement.now ≡ true → IsLikelyWrite S.Pages space.old space.new catalog.now result }
+    ensures few { is_write statement.now ≡ true → SparesStatement S.Pages space.old space.new catalog.now statement.now }
+    ensures likely { is_write statement.now ≡ true → IsLikelyWrite S.Pages space.old space.new catalog.now result }
     ensures kept { Keeps S.Pages space.old space.new }
     ensures refusal { RefusesTree S.Pages space.old space.new result }
 {
     match statement {
-        Statement::Insert { .. } => write(alloc, space, catalog, statement, kind),
+        Statement::Insert { .. } | Statement::Update { .. } => {
+            write(alloc, space, catalog, statement, kind)
+        }
         Statement::Select { .. } | Statement::Count { .. } => {
             read(alloc, space, catalog, statement, kind)
         }
-        Statement::Update { .. } | Statement::Delete { .. } => unreachable!(),
+        Statement::Delete { .. } => unreachable!(),
     }
 }

@@ -1,5 +1,5 @@
 -- The rows of a tree ascend, and where a rowid belongs among them.
-use Rattle.std.proofs.Common.{◌≡◌, ℕ, zero, suc, ℤ, pos, negsuc, ◌+◌, ◌<◌, ◌≤◌, true, false, List, [], ◌∷◌, ◌++◌, All, refl, arith}
+use Rattle.std.proofs.Common.{◌≡◌, ℕ, zero, suc, ℤ, pos, negsuc, ◌+◌, ◌<◌, ◌≤◌, ◌⊎◌, true, false, List, [], ◌∷◌, ◌++◌, All, refl, arith}
 use Rattle.std.specs.Prelude.{int_lt, nat_lt}
 use Rattle.std.specs.Ordering.{int_eq}
 use lib.Signed.{mag}
@@ -8,7 +8,8 @@ use Rattle.std.proofs.lemmas.List.Elements.{All-head, All-tail}
 use Rattle.spe_model.specs.declared.page.Cell.{Cell}
 use Rattle.spe_model.specs.Paging.{Paging}
 use Rattle.spe_model.specs.Tree.{AreRows, AreUnder, IsTree, fan, node_cells, node_right, rank, rows_of, tree_rows}
-use Rattle.spe_cut.proofs.OrderLemmas.{HasWithin, IsWithin, tree_within}
+use Rattle.spe_cut.proofs.OrderLemmas.{HasWithin, IsWithin, lower_rank, tree_within}
+use Rattle.spe_cut.proofs.RowLemmas.{other_rowid}
 
 -- the rowids ascend from a bound on, by rank
 abbrev pub Ascend : (low : ℕ) → List (ℤ × List ℕ) → Type 0
@@ -56,3 +57,10 @@ lower_other (pos m) (pos n) fits behind other = grind (arith, behind, other)
 lower_other (pos m) (negsuc n) fits behind other = refl
 lower_other (negsuc m) (pos n) fits behind other = absurd (grind (arith, fits, behind))
 lower_other (negsuc m) (negsuc n) fits behind other = grind (arith, fits, behind, other)
+
+-- a rowid of lower rank is lower, and one of another rank is another
+pub rank_less : (a b : ℤ) → rank a < rank b → int_lt a b ≡ true
+rank_less a b less = lower_rank a b less
+
+pub rank_other : (a b : ℤ) → (rank a < rank b) ⊎ (rank b < rank a) → int_eq a b ≡ false
+rank_other a b order = other_rowid a b order

@@ -119,10 +119,7 @@ struct Paged {
 fn is_one_of(statement: &Statement) -> bool
     ensures { result ≡ is_built statement.now }
 {
-    !matches!(
-        statement,
-        Statement::Update { .. } | Statement::Delete { .. }
-    )
+    !matches!(statement, Statement::Delete { .. })
 }
 
 // The pages after a statement, where it gives this answer.
@@ -189,7 +186,8 @@ fn give_from_empty(alloc: Global, steps: &[Step]) -> Result<bool, AllocError> {
     }
 }
 
-fn expect(rt: &impl Abort, alloc: Global, steps: &[Step]) -> Result<(), AllocError> {
+/// Stops the test unless all statements give their answers, from two empty tables on.
+pub fn expect(rt: &impl Abort, alloc: Global, steps: &[Step]) -> Result<(), AllocError> {
     let holds = give_from_empty(alloc, steps)?;
     assert!(rt; holds, "{steps}", steps = steps.len());
     Ok(())

@@ -2,7 +2,7 @@ use Rattle.spe_exec.proofs.WritesLemmas.{blocked_means, named_likely, named_mean
 use Rattle.spe_exec.proofs.writes.write.Goals as goal
 
 pub returns-in-ReadOnly-clause-meaning : goal.returns-in-ReadOnly-clause-meaning
-returns-in-ReadOnly-clause-meaning g c = blocked_means g.S.Pages c.args.space.now c.args.catalog.now c.args.kind c.args.statement.now c.requires.insert c.in-ReadOnly.is
+returns-in-ReadOnly-clause-meaning g c = blocked_means g.S.Pages c.args.space.now c.args.catalog.now c.args.kind c.args.statement.now c.requires.writes c.in-ReadOnly.is
 
 pub returns-in-None-clause-meaning : goal.returns-in-None-clause-meaning
 returns-in-None-clause-meaning g c =

@@ -12,5 +12,5 @@ returns-in-Some-clause-carries g c = λ pages t agrees is same.
 pub returns-in-None-clause-carries : goal.returns-in-None-clause-carries
 returns-in-None-clause-carries g c = λ pages t agrees is same.
     let none = sym c.rowless_refusal.ensures ∙ c.in-None.is in
-    carries_table g.S.Pages c.args.space.now c.insert.new.space pages t c.args.statement.now _ c.insert.result (ap (λ (e : Entry). rowless_refusal e.table c.args.statement.now) same ∙ none)
-    (c.insert.ensures.carries pages t agrees (open_table g.S.Pages c.args.space.now pages c.args.entry.now t c.args.statement.now is same none) same)
+    carries_table g.S.Pages c.args.space.now c.write_rows.new.space pages t c.args.statement.now _ c.write_rows.result (ap (λ (e : Entry). rowless_refusal e.table c.args.statement.now) same ∙ none)
+    (c.write_rows.ensures.carries pages t agrees (open_table g.S.Pages c.args.space.now pages c.args.entry.now t c.args.statement.now is same none) same)
