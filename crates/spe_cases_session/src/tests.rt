@@ -1,3 +1,4 @@
 mod begin;
 mod disk;
+mod endings;
 mod rows;

@@ -45,9 +45,11 @@ fn fail<D: Disk, N: Opening>(
     requires alone { IsAlone store.events pass.id }
     ensures answer { result.answer ≡ Err (record { number = length (entries_in store.events); why = why }) }
     ensures left { IsLeft store result.store }
+    ensures disk { IsOf N.opened result.store.desk }
     ensures session { session.new ≡ record session.old { told = max session.old.told (length (entries_in store.events)) } }
 {
     let Left { store, number } = leave(store, pass, session);
+    store.keeps();
     Ended {
         store,
         answer: Err(EndFailed { number, why }),
@@ -74,6 +76,7 @@ fn end<D: Disk, N: Opening>(
     ensures uncounted { OnErr result.answer (result.store.count ≡ store.count) }
     ensures failed { IfErr result.answer (λ failed. failed.number ≡ length (entries_in result.store.events)) }
     ensures cause { IfErr result.answer (λ failed. IsFault N.opened result.store failed.why) }
+    ensures disk { IsOf N.opened result.store.desk }
     ensures going { OnOk result.answer (result.store.desk.stopped ≡ None) }
     ensures idle { result.store.desk.stopped ≡ None → IsIdle result.store.events }
     ensures broken { OnErr result.answer (IsBrokenBy session.old.number log.now (broken_in result.store.events)) }
@@ -85,6 +88,7 @@ fn end<D: Disk, N: Opening>(
     match seal(&mut store, &mut pass, session, log) {
         Ok(number) => {
             let Left { store, .. } = leave(store, pass, session);
+            store.keeps();
             Ended {
                 store,
                 answer: Ok(number),
@@ -114,6 +118,7 @@ impl<D: Disk, N: Opening, K: Beginning> Pager<D, N, K> {
         ensures uncounted { OnErr result.answer (result.store.count ≡ K.begun.count) }
         ensures failed { IfErr result.answer (λ failed. failed.number ≡ length K.begun.entries) }
         ensures cause { IfErr result.answer (λ failed. IsFault N.opened result.store failed.why) }
+        ensures disk { IsOf N.opened result.store.desk }
         ensures going { OnOk result.answer (result.store.desk.stopped ≡ None) }
         ensures idle { result.store.desk.stopped ≡ None → IsIdle result.store.events }
         ensures broken { OnErr result.answer (IsBrokenBy session.old.number log.now (broken_in result.store.events)) }

@@ -1,4 +1,4 @@
-use Rattle.std.proofs.Common.{◌+◌, arith}
+use Rattle.std.proofs.Common.{arith}
 use Rattle.spe_session.proofs.FrontLemmas.{grown_numbered, put_one}
 use Rattle.spe_session.proofs.PageLemmas.{placed_put, sized_put}
 use Rattle.spe_session.proofs.pager.Pager.grow.Goals as goal
@@ -11,7 +11,7 @@ invariant_of-self-2-clause-fronted g c =
 pub invariant_of-self-2-clause-numbered : goal.invariant_of-self-2-clause-numbered
 invariant_of-self-2-clause-numbered g c =
     let s = c.args.self.now in
-    grown_numbered s.store.count s.pages (s.pages + 16) c.args.front s.dirty c.put.new.self s.numbered c.in_ok-put.ensures.ok
+    grown_numbered s.store.count s.pages _ c.args.front s.dirty c.put.new.self s.numbered c.in_ok-put.ensures.ok
 
 pub invariant_of-self-2-clause-dirty_sized : goal.invariant_of-self-2-clause-dirty_sized
 invariant_of-self-2-clause-dirty_sized g c =
@@ -21,4 +21,4 @@ invariant_of-self-2-clause-dirty_sized g c =
 pub invariant_of-self-2-clause-placed : goal.invariant_of-self-2-clause-placed
 invariant_of-self-2-clause-placed g c =
     let s = c.args.self.now in
-    placed_put s.pages (s.pages + 16) 1 c.args.front s.dirty c.put.new.self s.placed c.in_ok-put.ensures.ok (omega (arith, s.some, s.more)) (omega arith)
+    placed_put s.pages _ 1 c.args.front s.dirty c.put.new.self s.placed c.in_ok-put.ensures.ok (omega (arith, s.some, s.more)) (omega arith)
