@@ -14,3 +14,4 @@ pub mod ListLemmas
 pub mod StartLemmas
 pub mod CarriedLemmas
 pub mod TransactionLemmas
+pub mod RunLemmas

@@ -86,9 +86,11 @@ module _ {P : Type 0} (g : Ghosts P) (opened : Opened) (entries : List Entry) (s
   front_right statements replies front db was =
       let now = served_now opened entries (g.seen s) rests db was in
       let first : replies ≡ replies_from kind (database_after db entries) front.done =
-      front.replied (length (pages_of opened entries)) now.paging (database_after db entries) now.served (seen_agrees (pages_of opened entries) now.paging (g.seen s) now.gives rests.seen_is) in
-      (length front.done, first ∙ first_replies kind (database_after db entries) front.done front.left
-      ∙ ap (λ (ss : List Statement). take (length front.done) (replies_from kind (database_after db entries) ss)) (sym front.split))
+      front.replied (length (pages_of opened entries)) now.paging (database_after db entries) now.served (seen_agrees (pages_of opened entries) now.paging (g.seen s) now.gives rests.seen_is) in (
+        length front.done,
+        first ∙ first_replies kind (database_after db entries) front.done front.left
+            ∙ ap (λ (ss : List Statement). take (length front.done) (replies_from kind (database_after db entries) ss)) (sym front.split),
+      )
 
 pub told_map : (told : Option History) (A B : History → Type 0) → ((h : History) → A h → B h) → IfTold told A → IfTold told B
 told_map None A B f a = tt

@@ -17,6 +17,8 @@ use Rattle.spe_space.specs.declared.fault.SpaceFault.TheVariants as faults
 use Rattle.spe_space.specs.Outcome.{OnFull}
 use Rattle.spe_store.specs.declared.log.Log.{Log}
 use Rattle.spe_store.specs.declared.session.SessionSeat.{SessionSeat}
+use Rattle.spe_store.specs.declared.stop.BeginFault.{BeginFault}
+use Rattle.spe_store.specs.declared.stop.BeginFault.TheVariants as begins
 use Rattle.spe_store.specs.Desk.{Desk}
 use Rattle.spe_store.specs.Event.{entries_in}
 use Rattle.spe_store.specs.Opened.{Opened}
@@ -143,3 +145,14 @@ failed_outcome number ends_by.Memory = Memory number
 abbrev pub outcome_after : Result ℕ EndFailed → Outcome
 outcome_after (Ok number) = Commit number
 outcome_after (Err failed) = failed_outcome failed.number failed.why
+
+-- a file may have so many pages of a size
+pub record IsCounted (pages size : ℕ) : Type 0 where
+  pub some : 1 ≤ pages
+  pub few : pages * size ≤ 2 ^ 30
+
+-- the outcome of a transaction that did not begin
+abbrev pub unbegun_outcome : (number : ℕ) → BeginFault → Outcome
+unbegun_outcome number (begins.Stopped op) = Fault number (causes.Stopped op)
+unbegun_outcome number begins.Sixteen = Memory number
+unbegun_outcome number begins.Memory = Memory number

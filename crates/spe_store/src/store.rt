@@ -161,12 +161,14 @@ impl<D: Disk, N: Opening> Store<D, N> {
     /// The disk is that of the opening, and its counts of faults have not fallen. At each cut of the trace so
     /// far the recovered pages are those after the commits within it, and these are served for what the
     /// commits leave, where the pages of the opening were. Until the store stops, what each transaction has
-    /// read is as after all commits, and no cut of a commit has failed.
+    /// read is as after all commits, and no cut of a commit has failed. The page size is the one that recovery
+    /// found.
     pub fn keeps(&self)
         ensures disk { IsOf N.opened self.now.desk }
         ensures cuts { KeepsCuts N.opened self.now }
         ensures pages { KeepsPages N.opened self.now }
         ensures unbroken { self.now.desk.stopped ≡ None → broken_in self.now.events ≡ None }
+        ensures sized { self.now.page_size ≡ N.opened.found.page_size }
     {
         let _story = &self.story;
     }

@@ -12,15 +12,16 @@ use std::test::Fail;
 // A disk whose files are all zeros, however long they are, and how many operations were made on it.
 #[derive(Drop)]
 struct Zeros {
+    named: bool,
     made: u64,
 }
 
 impl Disk for Zeros {
-    ghost use Rattle.std.specs.Prelude.{None, true};
+    ghost use Rattle.std.specs.Prelude.{None};
 
     ghost told = { λ _. None };
 
-    ghost attached = { λ _. true };
+    ghost attached = { λ d. d.named };
 
     ghost read_faults = { λ _. 0 };
 
@@ -31,6 +32,7 @@ impl Disk for Zeros {
     ghost whole = { λ _. tt };
 
     fn attach(&mut self, _name: &str) -> Result<bool, Failed> {
+        self.named = true;
         Ok(true)
     }
 
@@ -74,7 +76,10 @@ fn nearly_full() -> Recovered
 
 // What is answered for so many lists, and whether an operation was made.
 fn answer(alloc: Global, lists: u32) -> (Result<u32, ConvertFault>, bool) {
-    let mut disk = Zeros { made: 0 };
+    let mut disk = Zeros {
+        named: true,
+        made: 0,
+    };
     let answer = prepare(alloc, &mut disk, &nearly_full(), lists.clamp(1, 16));
     (answer, disk.made > 0)
 }

@@ -12,4 +12,5 @@ returns g c = record {
   cuts = subst (KeepsCuts g.N.Opening.opened) c.self.view_is (keeps_cuts _ _ c.self.inside.works.items c.self.inside.order c.self.invariant);
   pages = subst (KeepsPages g.N.Opening.opened) c.self.view_is (keeps_pages _ _ c.self.inside.works.items c.self.inside.order c.self.invariant);
   unbroken = subst (λ (s : Store). s.desk.stopped ≡ None → broken_in s.events ≡ None) c.self.view_is (keeps_unbroken _ _ c.self.inside.works.items c.self.inside.order c.self.invariant);
+  sized = subst (λ (s : Store). s.page_size ≡ g.N.Opening.opened.found.page_size) c.self.view_is c.self.invariant.found;
 }
