@@ -8,9 +8,9 @@ pub const USAGE: &str = "usage:
   spe rows DATABASE TABLE        prints the rows of a table
   spe prepare DATABASE LISTS     makes free lists for transactions, 1 to 16 of them
   spe release DATABASE           puts the free lists back as SQLite has them
-  spe run DATABASE SCRIPT..      not built yet: up to 64 scripts, each one client
-      --workers N                threads, 1 to 16, else 4
-      --retries N                tries to get a lock, up to 1000000, else 1000
+  spe run DATABASE SCRIPT..      runs up to 64 scripts of statements, each one client
+      --workers N                threads, 1 to 16, else 4; one is used so far
+      --retries N                tries to get a lock, up to 1000000, else 1000; none is tried so far
       --slots N                  lock words, a power of two from 16 to 262144, else that
   spe work DATABASE SEED COUNT   not built yet: four generated clients, COUNT transactions each
 Behind a word -- all words are names. DATABASE is the path of a SQLite 3 file.";
@@ -50,14 +50,22 @@ static HEADERS: [(&str, HeaderFault); 8] = [
 ];
 
 // What helps, by how the line begins that is printed.
-static ADVICE: [(&str, &str); 15] = [
+static ADVICE: [(&str, &str); 17] = [
+    (
+        "refused no-script ",
+        "there is no file of the name of this script, counted from 1",
+    ),
+    (
+        "refused script ",
+        "this script, counted from 1, is wrong on this line, and no database was looked at",
+    ),
     (
         "refused no-such-database\n",
         "there is no file of this name",
     ),
     (
         "refused not-built\n",
-        "this command is not built yet; check, rows, prepare and release are",
+        "this is not built yet: of the commands `work`, and of scripts BEGIN READONLY and DELETE",
     ),
     (
         "refused not-prepared\n",

@@ -1,4 +1,8 @@
+mod deep;
 mod leaves;
+mod lengths;
 mod payloads;
+mod reserved;
+mod root;
 mod sizes;
 mod tables;

@@ -339,8 +339,9 @@ fn raced<R: Threads + Sync>(rt: &R, alloc: Global) -> Result<Tally, AllocError> 
 #[test]
 fn ids_that_race_exclude_each_other(rt: HostRuntime) -> Result<(), Fail> {
     let tally = raced(&rt, rt.alloc())?;
-    assert_eq!(rt; tally.wrong.load(SeqCst), 0);
-    assert_eq!(rt; tally.grants.load(SeqCst), 16 * GRANTS);
-    assert!(rt; tally.pins.load(SeqCst) > 0);
+    let right = tally.wrong.load(SeqCst) == 0;
+    let granted = tally.grants.load(SeqCst) == 16 * GRANTS;
+    let pinned = tally.pins.load(SeqCst) > 0;
+    assert!(rt; right && granted && pinned);
     Ok(())
 }

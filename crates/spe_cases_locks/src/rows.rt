@@ -3,6 +3,7 @@ ghost use Rattle.std.specs.Prelude.{◌≡◌, ◌<◌, All, length};
 
 use spe_slots::{IdSeat, Pin, Slots, StoreSeat, Try};
 use std::alloc::{AllocError, Global};
+use std::process::Abort;
 use std::test::Fail;
 
 #[derive(Clone, Copy)]
@@ -166,27 +167,29 @@ const PINS_OF_A_WRITER: [Row; 11] = [
     (3, Act::Release, 7, None),
 ];
 
-// The first table of rows that has a wrong one, by its place, and the row.
-fn first_wrong_table(alloc: Global) -> Result<Option<(u8, usize)>, AllocError> {
-    let wrong = [
-        first_wrong_of(alloc, 64, &TWO_PAGES)?,
-        first_wrong_of(alloc, 64, &A_WRITER_AFTER_A_READER)?,
-        first_wrong_of(alloc, 64, &A_READER_THAT_WRITES)?,
-        first_wrong_of(alloc, 16, &A_READER_BESIDE_ANOTHER)?,
-        first_wrong_of(alloc, 262_144, &THE_LARGEST_TABLE)?,
-        first_wrong_of(alloc, 64, &PINS_OF_A_READER)?,
-        first_wrong_of(alloc, 16, &PINS_OF_A_WRITER)?,
-    ];
-    for table in 0..7u8 {
-        if let Some(row) = wrong[table as usize] {
-            return Ok(Some((table, row)));
-        }
+// The first wrong row of a table, by its place.
+fn first_wrong_in(alloc: Global, table: u8) -> Result<Option<usize>, AllocError> {
+    match table {
+        0 => first_wrong_of(alloc, 64, &TWO_PAGES),
+        1 => first_wrong_of(alloc, 64, &A_WRITER_AFTER_A_READER),
+        2 => first_wrong_of(alloc, 64, &A_READER_THAT_WRITES),
+        3 => first_wrong_of(alloc, 16, &A_READER_BESIDE_ANOTHER),
+        4 => first_wrong_of(alloc, 262_144, &THE_LARGEST_TABLE),
+        5 => first_wrong_of(alloc, 64, &PINS_OF_A_READER),
+        _ => first_wrong_of(alloc, 16, &PINS_OF_A_WRITER),
     }
-    Ok(None)
+}
+
+fn expect(rt: &impl Abort, table: u8, wrong: Option<usize>) {
+    let row = wrong.unwrap_or(0);
+    assert!(rt; wrong.is_none(), "row {row} of table {table}");
 }
 
 #[test]
 fn rows_show_the_words_of_refusals(rt: HostRuntime) -> Result<(), Fail> {
-    assert_eq!(rt; first_wrong_table(rt.alloc())?, None);
+    for table in 0..7u8 {
+        let wrong = first_wrong_in(rt.alloc(), table)?;
+        expect(&rt, table, wrong);
+    }
     Ok(())
 }

@@ -1,4 +1,4 @@
-//! Tests of recovery, over disks in memory, of those disks, and of the core of one transaction.
+//! Tests of recovery, over disks in memory, of those disks, and of the core.
 #![tactic(auto)]
 
 #[cfg(test)]

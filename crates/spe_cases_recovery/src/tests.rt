@@ -7,5 +7,6 @@ mod lists;
 mod run;
 mod scripts;
 mod stops;
+mod together;
 mod wants;
 mod watched;

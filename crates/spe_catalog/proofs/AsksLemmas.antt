@@ -1,9 +1,9 @@
 -- The pages that a catalog is read from.
-use Rattle.std.proofs.Common.{◌≡◌, ◌⊎◌, inl, inr, ℕ, zero, suc, ℤ, ◌<◌, List, [], ◌∷◌, Result, Ok, Err, sym, ◌∙◌, arith, subst}
+use Rattle.std.proofs.Common.{◌≡◌, ◌⊎◌, inl, inr, ℕ, zero, suc, ℤ, ◌<◌, List, [], ◌∷◌, Result, Err, refl, true, sym, ◌∙◌, arith, subst}
 use Rattle.std.specs.List.{Contains}
 use Rattle.spe_model.specs.Paging.{Paging, Agrees}
 use Rattle.spe_model.specs.Tree.{IsTableTree, tree_rows}
-use Rattle.spe_model.specs.Schema.{SchemaRow}
+use Rattle.spe_model.specs.Schema.{SchemaRow, is_table_row}
 use Rattle.spe_space.specs.Calls.{Reads, sight}
 use Rattle.spe_space.specs.Found.{missing_weaker, misses_weaker}
 use Rattle.spe_space.specs.declared.pages.Pages.{Ghosts}
@@ -11,7 +11,7 @@ use Rattle.spe_space.specs.declared.fault.TreeFault.{TreeFault}
 use Rattle.spe_search.specs.Range.{touched_pages, IsOverflowBetween, AddsOfRange, MissesInRange}
 use Rattle.spe_search.proofs.TouchedLemmas.{touched_in_tree}
 use Rattle.spe_catalog.specs.Reading.{AreRead}
-use Rattle.spe_catalog.specs.Asks.{AddsOnly, MissesOnly, IsRootIn, IsCatalogPage, IsCatalogMiss, AddsOfCatalog, MissesOfCatalog}
+use Rattle.spe_catalog.specs.Asks.{AddsOnly, MissesOnly, IsRootOf, IsRootIn, IsCatalogPage, IsCatalogMiss, AddsOfCatalog, MissesOfCatalog}
 
 -- a table among some rows is among more
 pub first_in : (left rest : List SchemaRow) (row : SchemaRow) → left ≡ row ∷ rest → (n : ℕ) → IsRootIn (row ∷ []) n → IsRootIn left n
@@ -24,6 +24,14 @@ first_in left rest row e n root = record { row = root.row; is = rw e (first root
 pub rest_in : (left rest : List SchemaRow) (row : SchemaRow) → left ≡ row ∷ rest → (n : ℕ) → IsRootIn rest n → IsRootIn left n
 rest_in left rest row e n root =
     record { row = root.row; is = rw e (suc root.is.0, omega (arith, root.is.1), root.is.2); table = root.table; root = root.root }
+
+-- the root of a table's row
+pub adds_of_row : {P : Type 0} (g : Ghosts P) (early late : P) (row : SchemaRow) → is_table_row row ≡ true → AddsOnly g early late (IsRootOf row)
+    → AddsOnly g early late (IsRootIn (row ∷ []))
+adds_of_row g early late row table adds n = elim (adds n) [
+  | inl same ↦ inl same
+  | inr root ↦ inr (record { row = row; is = (0, omega arith, refl); table = table; root = root })
+]
 
 -- pages given first, and then more
 pub adds_both : {P : Type 0} (g : Ghosts P) (early mid late : P) (A B C : ℕ → Type 0) → AddsOnly g early mid A → AddsOnly g mid late B → ((n : ℕ) → A n → C n) → ((n : ℕ) → B n → C n)

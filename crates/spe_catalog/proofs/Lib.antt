@@ -1,3 +1,4 @@
+mod PassedLemmas
 mod ConstraintLemmas
 mod ColumnsLemmas
 mod DeclarationLemmas

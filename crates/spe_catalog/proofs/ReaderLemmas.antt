@@ -1,5 +1,5 @@
 -- The catalog of pages.
-use Rattle.std.proofs.Common.{◌≡◌, ◌⊎◌, inl, inr, ℕ, ℤ, ◌^◌, ◌<◌, Bool, true, false, not, ◌&&◌, ◌||◌, ◌==◌, nat_lt, List, [], ◌∷◌, ◌++◌, length, map, Option, Some, None, Result, Ok, Err, SomeIff, unwrap_or, refl, sym, ap, ◌∙◌, arith, append_assoc, subst}
+use Rattle.std.proofs.Common.{◌≡◌, inl, inr, ℕ, ℤ, ◌^◌, ◌<◌, Bool, true, false, not, ◌&&◌, ◌||◌, ◌==◌, nat_lt, List, [], ◌∷◌, ◌++◌, length, map, Option, Some, None, Result, Ok, Err, SomeIff, unwrap_or, refl, sym, ap, ◌∙◌, arith, append_assoc, subst}
 use Rattle.std.specs.List.{Contains, list_any}
 use Rattle.std.proofs.lemmas.Bool.{false≢true}
 use Rattle.std.proofs.lemmas.List.{map-append}
@@ -8,12 +8,10 @@ use Rattle.spe_model.specs.declared.catalog.Entry.{Entry}
 use Rattle.spe_model.specs.declared.table.TableDef.{TableDef}
 use Rattle.spe_model.specs.Agree.{agree}
 use Rattle.spe_model.specs.Cell.{◌>>=◌}
-use Rattle.spe_model.specs.Paging.{Paging, Agrees}
-use Rattle.spe_model.specs.Tree.{rank, IsTableTree, tree_rows}
+use Rattle.spe_model.specs.Paging.{Paging}
+use Rattle.spe_model.specs.Tree.{IsTableTree, tree_rows}
 use Rattle.spe_model.specs.Definition.{are_distinct}
 use Rattle.spe_model.specs.Schema.{SchemaRow, schema_row_of, schema_of, is_table_row, is_index_page, is_rooted, root_of, table_of, entry_of, catalog_of, have_own_names}
-use Rattle.spe_space.specs.Calls.{Reads, sight}
-use Rattle.spe_space.specs.declared.pages.Pages.{Ghosts}
 use Rattle.spe_space.specs.Found.{Answers}
 use Rattle.spe_space.specs.declared.fault.TreeFault.{TreeFault}
 use Rattle.spe_space.specs.declared.fault.TreeFault.TheVariants.{Space, Corrupt}

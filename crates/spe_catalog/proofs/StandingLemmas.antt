@@ -3,7 +3,7 @@ use Rattle.std.proofs.Common.{◌≡◌, inl, inr, ℕ, zero, suc, ◌<◌, List
 use Rattle.std.specs.List.{Contains, flat_map}
 use Rattle.std.proofs.lemmas.List.Elements.{All-head}
 use Rattle.spe_model.specs.Database.{Database}
-use Rattle.spe_model.specs.Paging.{Paging, Agrees}
+use Rattle.spe_model.specs.Paging.{Paging}
 use Rattle.spe_model.specs.Schema.{SchemaRow, root_of}
 use Rattle.spe_model.specs.Standing.{Tree, HasTree, AreEntries, StandsFor, all_pages, pages_of_some}
 use Rattle.spe_space.specs.Calls.{sight}

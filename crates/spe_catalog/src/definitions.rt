@@ -82,10 +82,7 @@ fn columns<'a, 'b>(alloc: Global, tokens: &'a [Lexeme<'b>]) -> Result<Declaratio
                 alias,
             });
         }
-        match take_comma(&mut left) {
-            Ok(()) => (),
-            Err(miss) => return Err(miss),
-        }
+        take_comma(&mut left)?;
     }
     Err(Miss::Unknown)
 }

@@ -58,10 +58,8 @@ fn is_rooted<S: Pages>(space: &mut S, root: u32, buf: &mut [u8]) -> Result<bool,
     if root == 0 {
         return Ok(false);
     }
-    match is_index_page(space, root, buf) {
-        Ok(is_index) => Ok(!is_index),
-        Err(fault) => Err(fault),
-    }
+    let is_index = is_index_page(space, root, buf)?;
+    Ok(!is_index)
 }
 
 // The table of a row, and its root.
@@ -80,10 +78,7 @@ fn make_entry<S: Pages>(
     ensures refusal { RefusesTree S.Pages space.old space.new result }
 {
     let root = row.root().unwrap_or(0);
-    let rooted = match is_rooted(space, root, buf) {
-        Ok(rooted) => rooted,
-        Err(fault) => return Err(fault),
-    };
+    let rooted = is_rooted(space, root, buf)?;
     let table = table_of(alloc, attached, rooted, row)?;
     Ok(Entry { table, root })
 }
@@ -107,10 +102,8 @@ fn push_entry<S: Pages>(
     if !row.is_table() {
         return Ok(());
     }
-    match make_entry(alloc, space, attached, row, buf) {
-        Ok(entry) => out.push(entry)?,
-        Err(fault) => return Err(fault),
-    }
+    let entry = make_entry(alloc, space, attached, row, buf)?;
+    out.push(entry)?;
     Ok(())
 }
 
@@ -132,10 +125,7 @@ fn entries<S: Pages>(
     let mut found = Vec::new(alloc);
     let mut left = rows;
     while let [row, rest @ ..] = left {
-        match push_entry(alloc, space, attached, row, buf, &mut found) {
-            Ok(()) => (),
-            Err(fault) => return Err(fault),
-        }
+        push_entry(alloc, space, attached, row, buf, &mut found)?;
         left = rest;
     }
     Ok(found)
@@ -155,10 +145,8 @@ fn catalog_of<S: Pages>(
 {
     let attached = Attached::new(alloc, rows)?;
     let mut buf = vec![in alloc; 0u8; space.page_size() as usize]?;
-    match entries(alloc, space, &attached, rows, buf.as_mut_slice()) {
-        Ok(found) => Ok(Catalog::new(found)),
-        Err(fault) => Err(fault),
-    }
+    let found = entries(alloc, space, &attached, rows, buf.as_mut_slice())?;
+    Ok(Catalog::new(found))
 }
 
 // The catalog, as `read_catalog` has it.
@@ -171,10 +159,7 @@ fn catalog_in<S: Pages>(alloc: Global, space: &mut S) -> Result<Catalog, TreeFau
     ensures kept { Reads S.Pages space.old space.new }
     ensures refusal { RefusesTree S.Pages space.old space.new result }
 {
-    let pairs = match range_with_leaves(alloc, space, 1, i64::MIN, i64::MAX) {
-        Ok(pairs) => pairs,
-        Err(fault) => return Err(fault),
-    };
+    let pairs = range_with_leaves(alloc, space, 1, i64::MIN, i64::MAX)?;
     match read_rows(alloc, pairs.as_slice())? {
         Reading::Rows(rows) => catalog_of(alloc, space, rows.as_slice()),
         Reading::Damage(leaf) => Err(TreeFault::Corrupt { page: leaf }),

@@ -3,25 +3,29 @@ use Rattle.std.proofs.Common.{◌≡◌, ℕ, List, [], ◌∷◌, ◌++◌, len
 use Rattle.std.specs.Option.{option_map_or}
 use Rattle.spe_model.specs.Recovery.{file_page}
 use Rattle.spe_model.specs.Paging.{lay}
+use Rattle.spe_model.specs.Settled.{page_in}
+use Rattle.spe_crash.proofs.NumbersLemmas.{pages_to-length}
+use Rattle.spe_transactions.specs.Pages.{named_count}
 use Rattle.spe_crash.proofs.FrontLemmas.{readable}
 use Rattle.spe_crash.proofs.PagesLemmas.{opened as parts_of}
 use Rattle.spe_core.specs.declared.event.Event.{Event, out-Event}
 use Rattle.spe_core.specs.declared.event.Event.TheOpen.{Event-F}
 use Rattle.spe_core.specs.declared.parts.Parts.{Parts}
 use Rattle.spe_core.specs.Becomes.{Becomes, count_by}
-use Rattle.spe_core.specs.Changed.{changed, changed_at, committed, cuts_of, ended, undone, undo_of_live, update_live, with_commit, with_journalled, with_made, with_read, with_written}
+use Rattle.spe_core.specs.Changed.{changed, changed_at, committed, cuts_of, ended, reading_under, released, undone, undo_of_live, update_live, with_commit, with_journalled, with_made, with_read, with_written, writing_under}
 use Rattle.spe_core.specs.Changing.{AreOf, IsHeld, count_next, count_next_at}
 use Rattle.spe_core.specs.Enabled.{count_of, enabled}
-use Rattle.spe_core.specs.Laid.{laid, named_count, pages_of}
+use Rattle.spe_core.specs.Laid.{laid}
 use Rattle.spe_core.specs.Opened.{Opened}
 use Rattle.spe_core.specs.Parts.{IsPaged, IsReady, state_of}
 use Rattle.spe_core.specs.Serial.{IsSerial, after_events, next}
-use Rattle.spe_core.specs.Sheets.{sheet_at, pages_at}
+use Rattle.spe_stored.specs.Sheets.{sheet_at, pages_at}
 use Rattle.spe_core.specs.Sound.{IsSound, now_laid}
 use Rattle.spe_core.proofs.SoundSteps.{count_is}
 use Rattle.spe_core.specs.State.{Committed, Live, State, live_of}
 use Rattle.spe_core.proofs.Sound.{sound_after, sound_next, sound_serial}
-use Rattle.spe_core.proofs.SoundLaid.{counted_of, laid_all, laid_next, laid_same, paging_of}
+use Rattle.spe_core.proofs.SoundCommit.{named_now}
+use Rattle.spe_core.proofs.SoundLaid.{laid_next, laid_same}
 use Rattle.spe_core.proofs.StepLemmas.{update_is}
 
 -- the file of a sound state names a page size
@@ -44,12 +48,12 @@ named_over first (Some page) = refl
 count_more : (s other : State) (t : Live) → IsSound s → IsSound other → other.opening ≡ s.opening → other.commits ≡ s.commits ++ record { seen = t.seen; written = t.written } ∷ []
     → count_by (count_of s) t ≡ count_of other
 count_more s other t sound later opening commits =
-    let paging = paging_of s.opening s.commits in
-    let before : count_of s ≡ named_count (paging 1) = count_is s sound ∙ (counted_of paging (now_laid s) (laid_all s)).count in
-    let next = lay (pages_at t.written) paging in
+    let first = page_in (now_laid s) 1 in
+    let next = lay (pages_at t.written) (page_in (now_laid s)) in
+    let before : count_of s ≡ named_count first = count_is s sound ∙ sym (named_now s t sound) in
     let after : count_of other ≡ named_count (next 1) =
-    count_is other later ∙ (counted_of next (now_laid other) (laid_next s other (record { seen = t.seen; written = t.written }) opening commits)).count in
-    ap (λ (n : ℕ). option_map_or named_count (sheet_at 1 t.written) n) before ∙ named_over (paging 1) (sheet_at 1 t.written) ∙ sym after
+    count_is other later ∙ ap length (laid_next s other (record { seen = t.seen; written = t.written }) opening commits) ∙ pages_to-length next (named_count (next 1)) in
+    ap (λ (n : ℕ). option_map_or named_count (sheet_at 1 t.written) n) before ∙ named_over first (sheet_at 1 t.written) ∙ sym after
 
 -- a transaction that is changed leaves the commits
 opening_stays : (s : State) (id : ℕ) (f : Live → Live) → (update_live s id f).opening ≡ s.opening
@@ -67,6 +71,8 @@ count_at_commit s id (Some t) sound at later =
 
 count_at : (s : State) (o : Opened) → IsSound s → IsSound (changed_at s o) → count_next_at s o ≡ count_of (changed_at s o)
 count_at s (Event-F.Begin id) sound later = count_same s _ sound later refl refl
+count_at s (Event-F.GrantRead id lock) sound later = let f = reading_under lock in count_same s _ sound later (opening_stays s id f) (commits_stay s id f)
+count_at s (Event-F.GrantWrite id lock) sound later = let f = writing_under lock in count_same s _ sound later (opening_stays s id f) (commits_stay s id f)
 count_at s (Event-F.Read id page) sound later =
     let f = with_read page (file_page s.content page) in count_same s _ sound later (opening_stays s id f) (commits_stay s id f)
 count_at s (Event-F.OpenJournal id) sound later = count_same s _ sound later refl refl
@@ -78,13 +84,14 @@ count_at s (Event-F.CommitCut id) sound later = count_at_commit s id (live_of s 
 count_at s (Event-F.UndoBytes id) sound later =
     let f = undone (undo_of_live (live_of s id)) in count_same s _ sound later (opening_stays s id f) (commits_stay s id f)
 count_at s (Event-F.RollCut id) sound later = count_same s _ sound later (opening_stays s id ended) (commits_stay s id ended)
+count_at s (Event-F.Release id lock) sound later = let f = released lock in count_same s _ sound later (opening_stays s id f) (commits_stay s id f)
 count_at s (Event-F.Stop after bytes) sound later = count_same s _ sound later refl refl
 count_at s Event-F.RecoverOp sound later = count_same s _ sound later refl refl
 count_at s _ sound later = refl
 
 -- what the invariant of a core says
 pub ready_of : (parts : Parts) → IsHeld parts → IsReady parts
-ready_of parts held = record { paged = paged_of (state_of parts) held.sound; count = held.count }
+ready_of parts held = record { paged = paged_of (state_of parts) held.sound; slots = held.sound.slots; count = held.count }
 
 pub changed_sound : (s : State) (e : Event) → enabled s e ≡ true → IsSound s → IsSound (changed s e)
 changed_sound s e may sound = let same : next s e ≡ changed s e = rw may refl in subst IsSound same (sound_next s e sound)

@@ -1,5 +1,7 @@
 pub mod Walks
 pub mod SoundSheets
+pub mod LocksLemmas
+pub mod SoundLocks
 pub mod SoundLaid
 pub mod SoundWorks
 pub mod SoundState
@@ -11,13 +13,7 @@ pub mod SoundEnds
 pub mod SoundStops
 pub mod SoundOpened
 pub mod Sound
-pub mod LaidLemmas
-pub mod KeptLemmas
-pub mod FilesLemmas
-pub mod SheetsLemmas
-pub mod UndoLemmas
 pub mod LivesLemmas
-pub mod PlanLemmas
 pub mod EnabledLemmas
 pub mod StepLemmas
 pub mod CoreLemmas

@@ -10,7 +10,7 @@ use Rattle.std.proofs.lemmas.Bool.Decides.{nat_tests}
 use Rattle.std.proofs.lemmas.Map.Steps.{set_value_same}
 use Rattle.spe_core.specs.State.{Live, live_in}
 use Rattle.spe_core.specs.Lives.{updated_in, with_live_in}
-use Rattle.spe_core.proofs.SheetsLemmas.{at_is}
+use Rattle.spe_stored.proofs.SheetsLemmas.{at_is}
 
 -- a look-up finds the transaction
 pub live_is : (id : ℕ) (es : List (ℕ × Live)) → lookup (is_at (nat_cmp id)) es ≡ live_in id es

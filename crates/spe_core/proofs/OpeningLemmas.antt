@@ -6,6 +6,7 @@ use Rattle.std.proofs.lemmas.Bool.{and_parts, le-leb, leb-true, or_right}
 use Rattle.std.proofs.lemmas.Bool.Decides.{nat_tests}
 use Rattle.std.proofs.Math.Nat.{mul-le-mul_left}
 use Rattle.std.proofs.lemmas.List.{take-append-drop, take-take}
+use Rattle.std.proofs.lemmas.Nat.{pow_pos}
 use Rattle.spe_model.specs.declared.header.Header.{Header}
 use Rattle.spe_model.specs.declared.header.HeaderFault.{HeaderFault}
 use Rattle.spe_model.specs.declared.header.HeaderFault.TheVariants.{Short, NotADatabase, Wal, BadPageSize}
@@ -17,8 +18,9 @@ use Rattle.spe_crash.proofs.DatabaseLemmas.{whole_page}
 use Rattle.spe_crash.proofs.FrontLemmas.{readable}
 use Rattle.spe_crash.proofs.NumbersLemmas.{pages_pass, pages_to-length}
 use Rattle.spe_crash.proofs.PagesLemmas.{HasPages, closed, opened as parts_of, some_pages}
-use Rattle.spe_core.specs.Laid.{alone, pages_of}
-use Rattle.spe_core.specs.Opening.{IsOpening}
+use Rattle.spe_core.specs.Laid.{pages_of}
+use Rattle.spe_stored.specs.Stored.{alone}
+use Rattle.spe_core.specs.Opening.{AreSlots, IsOpening}
 use Rattle.spe_core.specs.Whole.{is_whole}
 use Rattle.spe_core.proofs.SoundLaid.{header_fields}
 
@@ -134,6 +136,10 @@ file_of bytes o =
       fits = rw count at (whole_page content pages has (length pages) (some_pages content pages has) (omega arith) (no_held bytes (length pages)));
       count = sym count;
     }
+
+-- there is a lock
+pub some_slots : (slots : ℕ) → AreSlots slots → 1 ≤ slots
+some_slots slots a = rw a.power (pow_pos a.exponent)
 
 -- whether they are, by their header
 pub whole_opens : (bytes front : List ℕ) (h : Header) (result : Bool) → front ≡ take 100 bytes → Ok h ≡ header_of front → result ≡ is_whole h (length bytes) → IsTrue result ↔ IsOpening bytes

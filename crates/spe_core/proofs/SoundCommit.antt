@@ -7,19 +7,17 @@ use Rattle.spe_model.specs.declared.header.Header.{Header}
 use Rattle.spe_model.specs.declared.header.HeaderFault.{HeaderFault}
 use Rattle.spe_model.specs.Header.{fields, header_of, is_size_valid}
 use Rattle.spe_model.specs.Paging.{PageMap, Paging, lay}
-use Rattle.spe_model.specs.Recovery.{file_page_size, pages_to}
+use Rattle.spe_model.specs.Recovery.{file_page_size}
 use Rattle.spe_model.specs.Settled.{header_in, page_in}
-use Rattle.spe_crash.proofs.NumbersLemmas.{pages_same}
 use Rattle.spe_crash.proofs.PagesLemmas.{opened, some_pages}
 use Rattle.spe_transactions.specs.Pages.{MayCommit, laid_pages, named_count, page_at}
 use Rattle.spe_transactions.proofs.PageLemmas.{is_at, page_counted}
 use Rattle.spe_transactions.proofs.WorkLemmas.{count_named, header_legal, small_enough}
 use Rattle.spe_core.specs.Enabled.{are_written, count_of, is_next_header, may_commit, page_size_of}
-use Rattle.spe_core.specs.Laid.{counted}
-use Rattle.spe_core.specs.Sheets.{Sheets, has_sheet, pages_at, sheet_at}
+use Rattle.spe_stored.specs.Sheets.{Sheets, has_sheet, pages_at, sheet_at}
 use Rattle.spe_core.specs.Sound.{IsSound, now_laid}
 use Rattle.spe_core.specs.State.{Live, State}
-use Rattle.spe_core.proofs.SoundLaid.{AreOf, header_fields, written_up}
+use Rattle.spe_core.proofs.SoundLaid.{header_fields, written_up}
 use Rattle.spe_core.proofs.SoundSteps.{count_is}
 
 -- what makes a header one that a database may have next
@@ -59,7 +57,7 @@ module _ (s : State) (t : Live) (sound : IsSound s) where
   abbrev next : Paging
   next = lay (pages_at t.written) (page_in now)
 
-  named_now : named_count (page_in now 1) ≡ length now
+  pub named_now : named_count (page_in now 1) ≡ length now
   named_now = count_named s.content now sound.recovers sound.counted
 
   pub can_commit : may_commit s t ≡ true → MayCommit now (pages_at t.written) (file_page_size s.content)
@@ -89,27 +87,8 @@ module _ (s : State) (t : Live) (sound : IsSound s) where
             added = λ p above within. h.added p (omega (arith, count_is s sound)) (rw same at within);
           }
 
-  module _ (paging : Paging) (a : AreOf paging now) (m : MayCommit now (pages_at t.written) (file_page_size s.content)) where
-    next_same : (p : ℕ) → 1 ≤ p → p ≤ named_count (next 1) → lay (pages_at t.written) paging p ≡ next p
-    next_same p low high = by_found (sheet_at p t.written) refl
-      where
-        by_found : (found : Option (List ℕ)) → sheet_at p t.written ≡ found → unwrap_or found (paging p) ≡ unwrap_or found (page_in now p)
-        by_found (Some bytes) e = refl
-        by_found None e = ⊎_elim
-            (λ (above : length now < p). absurd (let both : true ≡ false = sym (m.added p above high) ∙ ap is_some e in cc))
-            (λ (within : p ≤ length now). sym (a.each p low within))
-            (cases_lt (length now) p)
-
-    -- what was committed is laid over the pages
-    pub next_laid : counted (lay (pages_at t.written) paging) ≡ laid_pages now (pages_at t.written)
-    next_laid =
-        let some : 1 ≤ length now = some_pages s.content now (opened s.content now sound.recovers) in
-        let first : lay (pages_at t.written) paging 1 ≡ next 1 = next_same 1 (omega arith) (omega (arith, m.low)) in
-        ap (λ (page : List ℕ). map (lay (pages_at t.written) paging) (pages_to (named_count page))) first
-        ∙ pages_same (lay (pages_at t.written) paging) next (named_count (next 1)) next_same
-
-    pub next_counted : is_size_valid (header_in (laid_pages now (pages_at t.written))) ≡ true
-    next_counted =
-        let some : 1 ≤ length now = some_pages s.content now (opened s.content now sound.recovers) in
-        let there : page_at (laid_pages now (pages_at t.written)) 1 ≡ Some (next 1) = page_counted next (named_count (next 1)) 1 (omega arith) (omega (arith, m.low)) in
-        ap (λ (page : List ℕ). is_size_valid (fields (take 100 page))) (is_at (laid_pages now (pages_at t.written)) 1 (next 1) there).is ∙ m.valid
+  pub next_counted : MayCommit now (pages_at t.written) (file_page_size s.content) → is_size_valid (header_in (laid_pages now (pages_at t.written))) ≡ true
+  next_counted m =
+      let some : 1 ≤ length now = some_pages s.content now (opened s.content now sound.recovers) in
+      let there : page_at (laid_pages now (pages_at t.written)) 1 ≡ Some (next 1) = page_counted next (named_count (next 1)) 1 (omega arith) (omega (arith, m.low)) in
+      ap (λ (page : List ℕ). is_size_valid (fields (take 100 page))) (is_at (laid_pages now (pages_at t.written)) 1 (next 1) there).is ∙ m.valid

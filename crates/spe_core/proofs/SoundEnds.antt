@@ -1,10 +1,10 @@
 -- A transaction that commits, or ends with nothing written, keeps a core sound.
-use Rattle.std.proofs.Common.{◌≡◌, ℕ, zero, suc, ◌<◌, List, [], ◌∷◌, ◌++◌, length, refl, sym, ap, ◌∙◌, arith, subst, true, false, Option, Some, ⊎_elim, inl, inr}
+use Rattle.std.proofs.Common.{◌≡◌, ◌≢◌, ℕ, zero, suc, ◌<◌, List, [], ◌∷◌, ◌++◌, length, refl, sym, ap, ◌∙◌, arith, subst, true, false, Option, Some, ⊎_elim, inl, inr}
 use Rattle.std.specs.Prelude.{◌⊎◌, not, is_some, slice_get}
 use Rattle.std.specs.Ordering.{nat_cmp}
 use Rattle.std.specs.BTreeMap.{insert_entry}
 use Rattle.std.proofs.Math.Path.{fun_ext}
-use Rattle.std.proofs.lemmas.Bool.{cases_Bool, not-true}
+use Rattle.std.proofs.lemmas.Bool.{cases_Bool, false_from_ne_true, not-true}
 use Rattle.spe_model.specs.Content.{Content}
 use Rattle.spe_model.specs.Covered.{Recovers}
 use Rattle.spe_model.specs.Header.{is_size_valid}
@@ -13,21 +13,22 @@ use Rattle.spe_model.specs.Recovery.{file_page_size, journal_of}
 use Rattle.spe_model.specs.Rollback.{has_length}
 use Rattle.spe_model.specs.Settled.{header_in}
 use Rattle.spe_model.specs.Trace.{after}
-use Rattle.spe_transactions.specs.Pages.{MayCommit, laid_pages}
+use Rattle.spe_transactions.specs.Pages.{MayCommit, laid_pages, page_at}
 use Rattle.spe_transactions.specs.Steps.{EndsBare, IsUndone}
 use Rattle.spe_transactions.specs.Work.{AtWork, Works, has_page, without_id}
-use Rattle.spe_transactions.proofs.CutWorkLemmas.{bare_ends, commit_works, drop_works}
+use Rattle.spe_transactions.proofs.CutWorkLemmas.{bare_ends, commit_leaves, commit_works, drop_works}
 use Rattle.spe_core.specs.Changed.{committed, cuts_of, ended, update_live, updated, with_commit, with_live, with_made}
-use Rattle.spe_core.specs.Enabled.{has_changed, may_commit, where_going, where_working}
+use Rattle.spe_core.specs.Enabled.{has_changed, holds, lock_of, may_commit, where_going, where_working}
 use Rattle.spe_core.specs.Laid.{laid}
 use Rattle.spe_core.specs.Serial.{ReadFrom}
-use Rattle.spe_core.specs.Sheets.{has_sheet, pages_at}
-use Rattle.spe_core.specs.Sound.{IsDoing, IsSound, journalled_of, now_laid, works_in, written_of}
+use Rattle.spe_stored.specs.Sheets.{has_sheet, pages_at}
+use Rattle.spe_core.specs.Sound.{IsDoing, IsGoing, IsSound, journalled_of, now_laid, works_in, written_of}
 use Rattle.spe_core.specs.State.{Committed, Live, State, live_of}
-use Rattle.spe_core.proofs.SoundCommit.{can_commit, next_counted, next_laid}
-use Rattle.spe_core.proofs.SoundLaid.{AreOf, counted_of, laid_all, laid_before, laid_next, paging_of}
+use Rattle.spe_core.proofs.SoundCommit.{can_commit, next_counted}
+use Rattle.spe_core.proofs.SoundLaid.{laid_before, laid_next}
+use Rattle.spe_core.proofs.SoundLocks.{FitsLocks, fits_less}
 use Rattle.spe_core.proofs.SoundSheets.{none_passes, sheet_first}
-use Rattle.spe_core.proofs.SoundState.{IsAtWork, going_with, goes_on, sound_like, working_with}
+use Rattle.spe_core.proofs.SoundState.{HasSeen, IsAtWork, going_with, goes_on, sound_like, working_with}
 use Rattle.spe_core.proofs.SoundSteps.{bare_journal}
 use Rattle.spe_core.proofs.SoundWorks.{going_has, works_ended}
 
@@ -76,14 +77,29 @@ module _ (s : State) (id : ℕ) (t : Live) (w : IsAtWork s id t) where
       (λ some. rw some (commit_works s.content (now_laid s) journalled written w.all.work id low own).made)
       (λ no_some. rw no_some (rw ((bare no_some).laid own) (bare no_some).work)))
 
+  -- the pages that another transaction has read stay, as it holds their locks
+  pub others_read : MayCommit (now_laid s) (pages_at t.written) (file_page_size s.content) → (j : ℕ) (x : Live) → j ≢ id → IsGoing s.live j x → HasSeen (laid_pages (now_laid s) (pages_at t.written)) x
+  others_read may j x other goes p bytes found =
+      let own : MayCommit (now_laid s) (written id) (file_page_size s.content) = subst (λ (m : PageMap). MayCommit (now_laid s) m (file_page_size s.content)) (sym wrote_is) may in
+      let held : holds (lock_of s p) x ≡ true = (w.all.locked.under j x goes).seen p (ap is_some found) in
+      let lacks : has_sheet p t.written ≡ false =
+      false_from_ne_true (has_sheet p t.written) (λ has. other (sym (w.all.locked.alone (lock_of s p) id j t x w.goes.its goes.its ((w.all.locked.under id t w.goes).written p has) held))) in
+      let stays : page_at (laid_pages (now_laid s) (written id)) p ≡ Some bytes =
+      commit_leaves s.content (now_laid s) journalled written w.all.work id p bytes own (w.all.seen j x goes p bytes found) (ap is_some (going_has written_of s.live id t p w.goes) ∙ lacks) in
+      subst (λ (m : PageMap). page_at (laid_pages (now_laid s) m) p ≡ Some bytes) wrote_is stays
+
+  -- the locks stay when it has ended
+  pub fits_ended : FitsLocks s.slots s.live id (ended t)
+  fits_ended = fits_less s.slots s.live id (ended t) w.all.locked t w.goes.its (λ going. absurd cc) (λ lock has. has) (λ lock held. held)
+
 pub sound_roll_cut : (s : State) (id : ℕ) → IsSound s → where_going s id (λ t. not (has_changed t)) ≡ true → IsSound (with_made (update_live s id ended) (cuts_of s.content id))
 sound_roll_cut s id sound may =
     let g = going_with s id (λ t. not (has_changed t)) sound may in
     let now = after s.content (cuts_of s.content id) in
     let work : EndedWork s id (now_laid s) = roll_ends s id g.t g.work (not-true (has_changed g.t) g.passes) in
     subst (λ (o : Option Live). IsSound (with_made (updated s id ended o) (cuts_of s.content id))) (sym g.its)
-    (sound_like s (with_made (with_live s id (ended g.t)) (cuts_of s.content id)) refl refl sound work.files work.recovers
-    (goes_on s id g.t (ended g.t) now (now_laid s) g.work (λ p bytes found. absurd cc) (without_id id (works_in journalled_of s.live)) (without_id id (works_in written_of s.live))
+    (sound_like s (with_made (with_live s id (ended g.t)) (cuts_of s.content id)) refl refl refl sound work.files work.recovers
+    (goes_on s id g.t (ended g.t) now (now_laid s) g.work (λ p bytes found. absurd cc) (λ j x other goes. g.work.all.seen j x goes) (fits_ended s id g.t g.work) (without_id id (works_in journalled_of s.live)) (without_id id (works_in written_of s.live))
     (works_ended journalled_of s.live id g.t) (works_ended written_of s.live id g.t) work))
 
 get_last : (cs : List Committed) (c x : Committed) (n : ℕ) → slice_get (cs ++ c ∷ []) n ≡ Some x → ((n < length cs) × (slice_get cs n ≡ Some x)) ⊎ ((n ≡ length cs) × (c ≡ x))
@@ -103,11 +119,9 @@ sound_committed : (s : State) (id : ℕ) (t : Live) → IsSound s → IsAtWork s
 sound_committed s id t sound w may =
     let other = with_made (with_live (with_commit s t) id (ended t)) (cuts_of s.content id) in
     let now = after s.content (cuts_of s.content id) in
-    let paging = paging_of s.opening s.commits in
-    let a : AreOf paging (now_laid s) = counted_of paging (now_laid s) (laid_all s) in
     let m : MayCommit (now_laid s) (pages_at t.written) (file_page_size s.content) = can_commit s t sound may in
     let new = laid_pages (now_laid s) (pages_at t.written) in
-    let is : now_laid other ≡ new = laid_next s other (commit_of t) refl refl ∙ next_laid s t sound paging a m in
+    let is : now_laid other ≡ new = laid_next s other (commit_of t) refl refl in
     let work : EndedWork s id new = commit_ends s id t w m in
     record {
       reads = λ n c found.
@@ -120,10 +134,11 @@ sound_committed s id t sound w may =
           (get_last s.commits (commit_of t) c n found);
       files = work.files;
       recovers = subst (Recovers now) (sym is) work.recovers;
-      counted = subst (λ (pages : List (List ℕ)). is_size_valid (header_in pages) ≡ true) (sym is) (next_counted s t sound paging a m);
+      counted = subst (λ (pages : List (List ℕ)). is_size_valid (header_in pages) ≡ true) (sym is) (next_counted s t sound m);
+      slots = sound.slots;
       doing =
-          subst (IsDoing s.mode (insert_entry nat_cmp s.live id (ended t)) now) (sym is)
-          (goes_on s id t (ended t) now new w (λ p bytes found. absurd cc) (without_id id (works_in journalled_of s.live)) (without_id id (works_in written_of s.live))
+          subst (IsDoing s.mode s.slots (insert_entry nat_cmp s.live id (ended t)) now) (sym is)
+          (goes_on s id t (ended t) now new w (λ p bytes found. absurd cc) (λ j x other goes. others_read s id t w m j x other goes) (fits_ended s id t w) (without_id id (works_in journalled_of s.live)) (without_id id (works_in written_of s.live))
           (works_ended journalled_of s.live id t) (works_ended written_of s.live id t) work);
     }
 

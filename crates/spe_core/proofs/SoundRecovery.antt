@@ -14,7 +14,7 @@ use Rattle.spe_core.specs.Changed.{first_only, torn_first}
 use Rattle.spe_transactions.proofs.OpeningLemmas.{opening_works}
 use Rattle.spe_core.specs.Sound.{AreServed, IsRecovering}
 use Rattle.spe_core.specs.State.{Live}
-use Rattle.spe_core.proofs.SoundState.{nobody_found, nobody_served}
+use Rattle.spe_core.proofs.SoundState.{nobody_served}
 
 cut_front : (xs ys : List Operation) → IsCut (xs ++ ys) xs
 cut_front [] ys = tt
@@ -62,12 +62,12 @@ op_torn live content pages (Write file at bytes ∷ os) n recovers r =
 op_torn live content pages (Cut file size ∷ os) n recovers r = recovers
 
 -- after all operations the files are served, with no transaction
-pub ends_served : (live : List (ℕ × Live)) (content : Content) (pages : List (List ℕ)) → length content ≡ 17 → IsRecovering live content pages [] → AreServed live content pages
-ends_served live content pages files r =
+pub ends_served : (slots : ℕ) (live : List (ℕ × Live)) (content : Content) (pages : List (List ℕ)) → length content ≡ 17 → IsRecovering live content pages [] → AreServed slots live content pages
+ends_served slots live content pages files r =
     let all : rule_of r.first (length pages) ≡ r.made = r.rule ∙ append-nil r.made in
     let is : after r.first (rule_of r.first (length pages)) ≡ content = ap (after r.first) all ∙ sym r.now in
     let back = rolled_back r.first pages r.recovers in
     let recovers : Recovers content pages =
     subst (λ (c : Content). Recovers c pages) is (cut_recovers r.first pages (rule_of r.first (length pages)) r.recovers (cut_whole (rule_of r.first (length pages)))) in
-    nobody_served live content pages (nobody_found live r.nobody)
+    nobody_served slots live content pages r.nobody
     (opening_works content pages files recovers (λ id low. ap (λ (c : Content). journal_of c id) (sym is) ∙ back.empty id low))

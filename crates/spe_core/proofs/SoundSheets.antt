@@ -6,7 +6,7 @@ use Rattle.std.specs.Ordering.{nat_cmp}
 use Rattle.std.specs.BTreeMap.{insert_entry}
 use Rattle.std.proofs.lemmas.Bool.{cases_Bool, cases_order, cases_eq, and_parts, eq-eqb, ne_eqb, or_parts}
 use Rattle.std.proofs.lemmas.Bool.Decides.{nat_tests}
-use Rattle.spe_core.specs.Sheets.{Sheets, sheet_at, with_sheet, without_sheet}
+use Rattle.spe_stored.specs.Sheets.{Sheets, sheet_at, with_sheet, without_sheet}
 use Rattle.spe_core.specs.State.{Live, live_in}
 
 -- the first entry of a number

@@ -19,17 +19,18 @@ use Rattle.spe_core.specs.Changed.{ended, torn_first}
 use Rattle.spe_core.specs.Enabled.{is_serving, serves, where_going, where_live, where_working}
 use Rattle.spe_core.specs.Laid.{laid}
 use Rattle.spe_core.specs.Serial.{ReadFrom}
-use Rattle.spe_core.specs.Sheets.{sheet_at}
-use Rattle.spe_core.specs.Sound.{AreServed, IsDoing, IsGoing, IsSound, journalled_of, now_laid, works_in, written_of}
+use Rattle.spe_stored.specs.Sheets.{sheet_at}
+use Rattle.spe_core.specs.Sound.{AreLocked, AreServed, IsDoing, IsGoing, IsSound, journalled_of, now_laid, works_in, written_of}
 use Rattle.spe_core.specs.State.{Committed, Live, Mode, Serving, Recovering, Phase, Working, Undoing, Ended, State, is_ended, is_working, live_in, live_of, phase_ended, phase_working}
 use Rattle.spe_core.proofs.SoundLaid.{laid_same}
+use Rattle.spe_core.proofs.SoundLocks.{FitsLocks, locked_none, locked_put}
 use Rattle.spe_core.proofs.SoundSheets.{live_other, live_same}
 use Rattle.spe_core.proofs.SoundWorks.{works_none}
 
 -- a core with the same commits is sound too, where its files are
-pub sound_like : (s other : State) → other.opening ≡ s.opening → other.commits ≡ s.commits → IsSound s → length other.content ≡ 17 → Recovers other.content (now_laid s)
-    → IsDoing other.mode other.live other.content (now_laid s) → IsSound other
-sound_like s other opening commits sound files recovers doing =
+pub sound_like : (s other : State) → other.opening ≡ s.opening → other.commits ≡ s.commits → other.slots ≡ s.slots → IsSound s → length other.content ≡ 17 → Recovers other.content (now_laid s)
+    → IsDoing other.mode other.slots other.live other.content (now_laid s) → IsSound other
+sound_like s other opening commits slots sound files recovers doing =
     let same : now_laid s ≡ now_laid other = sym (laid_same s other opening commits (length other.commits) ∙ ap (λ (cs : List Committed). laid s (length cs)) commits) in
     record {
       reads = λ n c found.
@@ -37,33 +38,42 @@ sound_like s other opening commits sound files recovers doing =
       files = files;
       recovers = subst (Recovers other.content) same recovers;
       counted = subst (λ (pages : List (List ℕ)). is_size_valid (header_in pages) ≡ true) same sound.counted;
-      doing = subst (IsDoing other.mode other.live other.content) same doing;
+      slots = rw slots sound.slots;
+      doing = subst (IsDoing other.mode other.slots other.live other.content) same doing;
     }
 
 -- what is done while serving
-pub served : (mode : Mode) (live : List (ℕ × Live)) (content : Content) (pages : List (List ℕ)) → serves mode ≡ true → IsDoing mode live content pages → AreServed live content pages
-served Serving live content pages serving doing = doing
-served (Recovering ops) live content pages serving doing = absurd cc
+pub served : (mode : Mode) (slots : ℕ) (live : List (ℕ × Live)) (content : Content) (pages : List (List ℕ)) → serves mode ≡ true → IsDoing mode slots live content pages → AreServed slots live content pages
+served Serving slots live content pages serving doing = doing
+served (Recovering ops) slots live content pages serving doing = absurd cc
 
-pub serving : (mode : Mode) (live : List (ℕ × Live)) (content : Content) (pages : List (List ℕ)) → serves mode ≡ true → AreServed live content pages → IsDoing mode live content pages
-serving Serving live content pages is doing = doing
-serving (Recovering ops) live content pages is doing = absurd cc
+pub serving : (mode : Mode) (slots : ℕ) (live : List (ℕ × Live)) (content : Content) (pages : List (List ℕ)) → serves mode ≡ true → AreServed slots live content pages → IsDoing mode slots live content pages
+serving Serving slots live content pages is doing = doing
+serving (Recovering ops) slots live content pages is doing = absurd cc
 
 -- a transaction that has not ended
 pub record IsAtWork (s : State) (id : ℕ) (t : Live) : Type 0 where
   pub serves : serves s.mode ≡ true
   pub goes : IsGoing s.live id t
-  pub all : AreServed s.live s.content (now_laid s)
+  pub all : AreServed s.slots s.live s.content (now_laid s)
 
--- a transaction has not ended only while the files are served
-unended_serves : (mode : Mode) (live : List (ℕ × Live)) (content : Content) (pages : List (List ℕ)) (id : ℕ) (t : Live) → live_in id live ≡ Some t → IsDoing mode live content pages → serves mode ≡ true
-unended_serves Serving live content pages id t its doing = refl
-unended_serves (Recovering left) live content pages id t its doing = absurd (let none : None ≡ Some t = ap (live_in id) (sym doing.nobody) ∙ its in cc)
+-- a transaction is live only while the files are served
+live_serves : (mode : Mode) (slots : ℕ) (live : List (ℕ × Live)) (content : Content) (pages : List (List ℕ)) (id : ℕ) (t : Live) → live_in id live ≡ Some t → IsDoing mode slots live content pages → serves mode ≡ true
+live_serves Serving slots live content pages id t its doing = refl
+live_serves (Recovering left) slots live content pages id t its doing = absurd (let none : None ≡ Some t = ap (live_in id) (sym doing.nobody) ∙ its in cc)
 
 pub unended : (s : State) (id : ℕ) (t : Live) → IsSound s → live_in id s.live ≡ Some t → is_ended t ≡ false → IsAtWork s id t
 unended s id t sound its going =
-    let is_served : serves s.mode ≡ true = unended_serves s.mode s.live s.content (now_laid s) id t its sound.doing in
-    record { serves = is_served; goes = record { its = its; going = going }; all = served s.mode s.live s.content (now_laid s) is_served sound.doing }
+    let is_served : serves s.mode ≡ true = live_serves s.mode s.slots s.live s.content (now_laid s) id t its sound.doing in
+    record { serves = is_served; goes = record { its = its; going = going }; all = served s.mode s.slots s.live s.content (now_laid s) is_served sound.doing }
+
+-- the locks of the live transactions, whether they have ended or not
+pub locked_now : (s : State) → IsSound s → AreLocked s.slots s.live
+locked_now s sound = by_mode s.mode sound.doing
+  where
+    by_mode : (mode : Mode) → IsDoing mode s.slots s.live s.content (now_laid s) → AreLocked s.slots s.live
+    by_mode Serving doing = doing.locked
+    by_mode (Recovering left) doing = locked_none s.slots s.live doing.nobody
 
 working_going : (phase : Phase) → phase_working phase ≡ true → phase_ended phase ≡ false
 working_going Working working = refl
@@ -77,7 +87,7 @@ pub record IsGoingWith (s : State) (id : ℕ) (test : Live → Bool) : Type 0 wh
   pub work : IsAtWork s id t
   pub passes : test t ≡ true
 
-found_live : (test : Live → Bool) (found : Option Live) → option_map_or test found false ≡ true → (t : Live) × (found ≡ Some t) × (test t ≡ true)
+pub found_live : (test : Live → Bool) (found : Option Live) → option_map_or test found false ≡ true → (t : Live) × (found ≡ Some t) × (test t ≡ true)
 found_live test None passes = absurd cc
 found_live test (Some t) passes = (t, refl, passes)
 
@@ -99,52 +109,70 @@ going_with s id test sound may =
 abbrev pub HasSeen : List (List ℕ) → Live → Type 0
 HasSeen pages t = (p : ℕ) (bytes : List ℕ) → sheet_at p t.seen ≡ Some bytes → page_at pages p ≡ Some bytes
 
--- one transaction changed, and no other goes on
-pub one_changed : (live : List (ℕ × Live)) (id : ℕ) (u : Live) (content : Content) (pages : List (List ℕ)) → id < 16
-    → ((other : ℕ) (x : Live) → IsGoing live other x → other ≡ id)
-    → HasSeen pages u → AtWork content pages (works_in journalled_of (insert_entry nat_cmp live id u)) (works_in written_of (insert_entry nat_cmp live id u))
-    → AreServed (insert_entry nat_cmp live id u) content pages
-one_changed live id u content pages low alone seen work = record {
-  work = work;
-  one = λ i j x y gx gy. own i x gx ∙ sym (own j y gy);
-  numbered = λ i x g. rw (own i x g) low;
+-- one transaction changed, and what the others have read is among the pages then
+pub record IsChanged (s : State) (id : ℕ) (u : Live) (content : Content) (pages : List (List ℕ)) : Type 0 where
+  pub low : is_ended u ≡ false → id < 16
+  pub seen : is_ended u ≡ false → HasSeen pages u
+  pub others : (j : ℕ) (x : Live) → j ≢ id → IsGoing s.live j x → HasSeen pages x
+  pub fits : FitsLocks s.slots s.live id u
+  pub work : AtWork content pages (works_in journalled_of (insert_entry nat_cmp s.live id u)) (works_in written_of (insert_entry nat_cmp s.live id u))
+
+pub changed_served : (s : State) (id : ℕ) (u : Live) (content : Content) (pages : List (List ℕ)) → AreServed s.slots s.live s.content (now_laid s) → IsChanged s id u content pages
+    → AreServed s.slots (insert_entry nat_cmp s.live id u) content pages
+changed_served s id u content pages a c = record {
+  work = c.work;
+  numbered = λ i x g.
+      ⊎_elim
+      (λ (here : i ≡ id). rw here (c.low (ap is_ended (own i x here g.its) ∙ g.going)))
+      (λ (other : i ≢ id). a.numbered i x (old i x other g))
+      (cases_eq i id);
   seen = λ i x g.
-      let both : Some u ≡ Some x = sym (live_same id u live) ∙ ap (λ (n : ℕ). live_in n (insert_entry nat_cmp live id u)) (sym (own i x g)) ∙ g.its in
-      let same : u ≡ x = cc in
-      subst (HasSeen pages) same seen;
+      ⊎_elim
+      (λ (here : i ≡ id). let same : u ≡ x = own i x here g.its in subst (HasSeen pages) same (c.seen (ap is_ended same ∙ g.going)))
+      (λ (other : i ≢ id). c.others i x other (old i x other g))
+      (cases_eq i id);
+  locked = locked_put s.slots s.live id u a.locked c.fits;
 }
   where
-    own : (i : ℕ) (x : Live) → IsGoing (insert_entry nat_cmp live id u) i x → i ≡ id
-    own i x g = ⊎_elim
-        (λ (here : i ≡ id). here)
-        (λ (other : i ≢ id). alone i x (record { its = sym (live_other id i u live other) ∙ g.its; going = g.going }))
-        (cases_eq i id)
+    own : (i : ℕ) (x : Live) → i ≡ id → live_in i (insert_entry nat_cmp s.live id u) ≡ Some x → u ≡ x
+    own i x here its =
+        let both : Some u ≡ Some x = sym (live_same id u s.live) ∙ ap (λ (n : ℕ). live_in n (insert_entry nat_cmp s.live id u)) (sym here) ∙ its in
+        cc
 
--- where no transaction goes on
-pub nobody_served : (live : List (ℕ × Live)) (content : Content) (pages : List (List ℕ)) → ((id : ℕ) (t : Live) → live_in id live ≡ Some t → is_ended t ≡ true) → AtWork content pages no_works no_works → AreServed live content pages
-nobody_served live content pages ends work = record {
+    old : (i : ℕ) (x : Live) → i ≢ id → IsGoing (insert_entry nat_cmp s.live id u) i x → IsGoing s.live i x
+    old i x other g = record { its = sym (live_other id i u s.live other) ∙ g.its; going = g.going }
+
+-- where no transaction is live
+pub nobody_served : (slots : ℕ) (live : List (ℕ × Live)) (content : Content) (pages : List (List ℕ)) → live ≡ [] → AtWork content pages no_works no_works → AreServed slots live content pages
+nobody_served slots live content pages nobody work = record {
   work =
       subst (λ (works : Works). AtWork content pages works (works_in written_of live)) (sym (works_none journalled_of live ends))
       (subst (AtWork content pages no_works) (sym (works_none written_of live ends)) work);
-  one = λ i j t u g also. absurd (none i t g);
   numbered = λ id t g. absurd (none id t g);
   seen = λ id t g. absurd (none id t g);
+  locked = locked_none slots live nobody;
 }
   where
+    ends : (id : ℕ) (t : Live) → live_in id live ≡ Some t → is_ended t ≡ true
+    ends id t found = absurd (let none : None ≡ Some t = ap (live_in id) (sym nobody) ∙ found in cc)
+
     none : (id : ℕ) (t : Live) → IsGoing live id t → ⊥
     none id t g = let impossible : true ≡ false = sym (ends id t g.its) ∙ g.going in cc
 
-pub nobody_found : (live : List (ℕ × Live)) → live ≡ [] → (id : ℕ) (t : Live) → live_in id live ≡ Some t → is_ended t ≡ true
-nobody_found live nobody id t found = absurd (let none : None ≡ Some t = ap (live_in id) (sym nobody) ∙ found in cc)
-
 -- the transaction changed what it lists, and goes on or has ended
 pub goes_on : (s : State) (id : ℕ) (t u : Live) (content : Content) (pages : List (List ℕ)) → IsAtWork s id t → HasSeen pages u
+    → ((j : ℕ) (x : Live) → j ≢ id → IsGoing s.live j x → HasSeen pages x) → FitsLocks s.slots s.live id u
     → (journalled written : Works) → works_in journalled_of (insert_entry nat_cmp s.live id u) ≡ journalled → works_in written_of (insert_entry nat_cmp s.live id u) ≡ written
-    → AtWork content pages journalled written → IsDoing s.mode (insert_entry nat_cmp s.live id u) content pages
-goes_on s id t u content pages w seen journalled written j n work =
-    serving s.mode (insert_entry nat_cmp s.live id u) content pages w.serves
-    (one_changed s.live id u content pages (w.all.numbered id t w.goes) (λ other x g. w.all.one other id x t g w.goes) seen
-    (subst (λ (works : Works). AtWork content pages works (works_in written_of (insert_entry nat_cmp s.live id u))) (sym j) (subst (AtWork content pages journalled) (sym n) work)))
+    → AtWork content pages journalled written → IsDoing s.mode s.slots (insert_entry nat_cmp s.live id u) content pages
+goes_on s id t u content pages w seen others fits journalled written j n work =
+    serving s.mode s.slots (insert_entry nat_cmp s.live id u) content pages w.serves
+    (changed_served s id u content pages w.all (record {
+      low = λ going. w.all.numbered id t w.goes;
+      seen = λ going. seen;
+      others = others;
+      fits = fits;
+      work = subst (λ (works : Works). AtWork content pages works (works_in written_of (insert_entry nat_cmp s.live id u))) (sym j) (subst (AtWork content pages journalled) (sym n) work);
+    }))
 
 -- some first bytes of an operation leave the pages
 pub torn_leaves : (content : Content) (o : Operation) (pages : List (List ℕ)) (journalled written : Works) (n : ℕ) → Recovers content pages → Makes content o pages pages journalled written

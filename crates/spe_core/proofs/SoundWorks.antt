@@ -7,7 +7,7 @@ use Rattle.std.proofs.lemmas.Bool.{cases_eq}
 use Rattle.spe_transactions.specs.Work.{Works, no_works, with_page, without_id, without_page}
 use Rattle.spe_transactions.proofs.WorksLemmas.{dropped_other, dropped_own, with_at, with_other_id, with_other_page, without_at, without_other_id, without_other_page}
 use Rattle.spe_core.specs.Changed.{ended}
-use Rattle.spe_core.specs.Sheets.{Sheets, sheet_at, with_sheet, without_sheet}
+use Rattle.spe_stored.specs.Sheets.{Sheets, sheet_at, with_sheet, without_sheet}
 use Rattle.spe_core.specs.Sound.{IsGoing, listed, works_in}
 use Rattle.spe_core.specs.State.{Live, is_ended, live_in}
 use Rattle.spe_core.proofs.SoundSheets.{live_other, live_same, with_other, with_same, without_other, without_same}

@@ -9,7 +9,7 @@ use Rattle.spe_core.specs.Changed.{undo_of_live, update_live, updated, with_made
 use Rattle.spe_core.specs.Enabled.{has_changed, is_changed}
 use Rattle.spe_core.specs.Lives.{updated_in}
 use Rattle.spe_core.specs.State.{State, Live, is_ended, live_in}
-use Rattle.spe_core.proofs.SheetsLemmas.{found_any}
+use Rattle.spe_stored.proofs.SheetsLemmas.{found_any}
 
 -- the state with this of its transactions
 updated_is : (s : State) (id : ℕ) (f : Live → Live) (o : Option Live) → live_in id s.live ≡ o → updated s id f o ≡ record s { live = updated_in id f s.live }

@@ -3,9 +3,9 @@ use Rattle.std.specs.Prelude.{◌≡◌, ℕ, length}
 use Rattle.std.specs.Option.{option_map_or}
 use Rattle.spe_core.specs.declared.parts.Parts.{Parts}
 use Rattle.spe_core.specs.Enabled.{count_of}
-use Rattle.spe_core.specs.Laid.{named_count}
+use Rattle.spe_transactions.specs.Pages.{named_count}
 use Rattle.spe_core.specs.Parts.{state_of}
-use Rattle.spe_core.specs.Sheets.{sheet_at}
+use Rattle.spe_stored.specs.Sheets.{sheet_at}
 use Rattle.spe_core.specs.State.{State, Live, live_of}
 
 -- the parts are now those of this state, with as many recovered pages as before

@@ -13,8 +13,9 @@ use Rattle.spe_model.specs.Trace.{Operation, after}
 use Rattle.spe_model.specs.Trace.Operation.{Write, Cut}
 use Rattle.spe_core.specs.declared.event.Event.{Event, out-Event}
 use Rattle.spe_core.specs.declared.event.Event.TheOpen.{Event-F}
+use Rattle.spe_core.specs.Locks.{with_lock, without_lock}
 use Rattle.spe_core.specs.Opened.{Opened}
-use Rattle.spe_core.specs.Sheets.{Sheets, has_sheet, with_sheet, without_sheet}
+use Rattle.spe_stored.specs.Sheets.{Sheets, has_sheet, with_sheet, without_sheet}
 use Rattle.spe_core.specs.State.{State, Live, Working, Undoing, Ended, Image, Mode, Serving, Recovering, live_of}
 use Rattle.spe_core.specs.Laid.{pages_of}
 use Rattle.spe_core.specs.Enabled.{count_of, page_size_of, is_changed}
@@ -28,7 +29,7 @@ abbrev pub with_made : State → List Operation → State
 with_made s ops = record s { content = after s.content ops; made = s.made + length ops }
 
 abbrev pub fresh : Live
-fresh = record { seen = []; journalled = []; written = []; phase = Working }
+fresh = record { seen = []; journalled = []; written = []; reads = []; writes = []; phase = Working }
 
 -- the bytes of a page are written, on page 1 all but the first 24
 abbrev pub page_write : State → ℕ → List ℕ → Operation
@@ -113,9 +114,19 @@ abbrev pub undone : Option (ℕ × List ℕ) → Live → Live
 undone None t = t
 undone (Some sheet) t = record t { written = without_sheet sheet.0 t.written; phase = Undoing }
 
--- a transaction that has ended lists nothing any more
+-- a transaction that has ended lists no page any more
 abbrev pub ended : Live → Live
-ended t = record { seen = []; journalled = []; written = []; phase = Ended }
+ended t = record t { seen = []; journalled = []; written = []; phase = Ended }
+
+-- it is a reader of a lock, or the writer, and holds it no more
+abbrev pub reading_under : ℕ → Live → Live
+reading_under lock t = record t { reads = with_lock lock t.reads }
+
+abbrev pub writing_under : ℕ → Live → Live
+writing_under lock t = record t { writes = with_lock lock t.writes }
+
+abbrev pub released : ℕ → Live → Live
+released lock t = record t { reads = without_lock lock t.reads; writes = without_lock lock t.writes }
 
 abbrev pub updated : State → ℕ → (Live → Live) → Option Live → State
 updated s id f None = s
@@ -143,7 +154,6 @@ committed s (Some t) = with_commit s t
 abbrev pub stopped : State → State
 stopped s = record s {
   live = [];
-  locks = [];
   readers = [];
   images = [];
   mode = Recovering (rule_of s.content (length (pages_of s.content)));
@@ -151,6 +161,8 @@ stopped s = record s {
 
 abbrev pub changed_at : State → Opened → State
 changed_at s (Event-F.Begin id) = with_live s id fresh
+changed_at s (Event-F.GrantRead id lock) = update_live s id (reading_under lock)
+changed_at s (Event-F.GrantWrite id lock) = update_live s id (writing_under lock)
 changed_at s (Event-F.Read id page) = update_live s id (with_read page (file_page s.content page))
 changed_at s (Event-F.OpenJournal id) = with_made s (operations_of s (Event-F.OpenJournal id))
 changed_at s (Event-F.Journal id page) =
@@ -162,6 +174,7 @@ changed_at s (Event-F.CommitCut id) =
 changed_at s (Event-F.UndoBytes id) =
     with_made (update_live s id (undone (undo_of_live (live_of s id)))) (operations_of s (Event-F.UndoBytes id))
 changed_at s (Event-F.RollCut id) = with_made (update_live s id ended) (operations_of s (Event-F.RollCut id))
+changed_at s (Event-F.Release id lock) = update_live s id (released lock)
 changed_at s (Event-F.Stop next bytes) = stopped (record s { content = after s.content (torn_of s next bytes) })
 changed_at s Event-F.RecoverOp = with_made (record s { mode = recovery_left s.mode }) (operations_of s Event-F.RecoverOp)
 changed_at s _ = s

@@ -1,5 +1,5 @@
 -- Where an event is enabled.
-use Rattle.std.specs.Prelude.{ℕ, ◌+◌, ◌-◌, ◌*◌, ◌^◌, ◌==◌, ◌&&◌, ◌||◌, not, nat_lt, nat_le, Bool, true, false, List, [], ◌∷◌, length, take, Option, Some, None, Result, Ok, Err}
+use Rattle.std.specs.Prelude.{ℕ, ◌+◌, ◌-◌, ◌*◌, ◌%◌, ◌^◌, ◌==◌, ◌&&◌, ◌||◌, not, nat_lt, nat_le, Bool, true, false, List, [], ◌∷◌, length, take, Option, Some, None, Result, Ok, Err}
 use Rattle.std.specs.List.{list_all, list_any}
 use Rattle.std.specs.Option.{option_map_or}
 use Rattle.std.specs.Str.{bytes_eq}
@@ -16,8 +16,9 @@ use Rattle.spe_model.specs.Trace.{Operation}
 use Rattle.spe_model.specs.Trace.Operation.{Write, Cut}
 use Rattle.spe_core.specs.declared.event.Event.{Event, out-Event}
 use Rattle.spe_core.specs.declared.event.Event.TheOpen.{Event-F}
+use Rattle.spe_core.specs.Locks.{has_lock}
 use Rattle.spe_core.specs.Opened.{Opened}
-use Rattle.spe_core.specs.Sheets.{Sheets, sheet_at, has_sheet}
+use Rattle.spe_stored.specs.Sheets.{Sheets, sheet_at, has_sheet}
 use Rattle.spe_core.specs.State.{State, Live, Mode, Serving, Recovering, live_of, is_ended, is_working}
 use Rattle.spe_core.specs.Laid.{pages_of}
 
@@ -51,8 +52,44 @@ where_working s id test = is_serving s && where_live s id (λ t. is_working t &&
 abbrev pub where_going : State → ℕ → (Live → Bool) → Bool
 where_going s id test = is_serving s && where_live s id (λ t. not (is_ended t) && test t)
 
-unfoldable pub have_all_ended : State → Bool
-have_all_ended s = list_all (λ (t : ℕ × Live). is_ended t.1) s.live
+-- the lock of a page
+abbrev pub lock_of : State → ℕ → ℕ
+lock_of s page = page % s.slots
+
+-- the transaction is a reader of the lock, or its writer
+abbrev pub holds : ℕ → Live → Bool
+holds lock t = has_lock lock t.reads || has_lock lock t.writes
+
+abbrev pub holds_none : Live → Bool
+holds_none t = (length t.reads == 0) && (length t.writes == 0)
+
+-- a transaction of another id has this
+abbrev pub another_has : ℕ → (Live → Bool) → List (ℕ × Live) → Bool
+another_has id test live = list_any (λ (t : ℕ × Live). not (t.0 == id) && test t.1) live
+
+-- an id is free where its transaction is not live, or has ended and holds no lock
+abbrev pub is_free : State → ℕ → Bool
+is_free s id = option_map_or (λ t. is_ended t && holds_none t) (live_of s id) true
+
+-- there is such a lock, and no other transaction writes under it
+abbrev pub may_read_under : State → (id lock : ℕ) → Bool
+may_read_under s id lock = nat_lt lock s.slots && not (another_has id (λ t. has_lock lock t.writes) s.live)
+
+-- there is such a lock, and no other transaction holds it
+abbrev pub may_write_under : State → (id lock : ℕ) → Bool
+may_write_under s id lock = nat_lt lock s.slots && not (another_has id (holds lock) s.live)
+
+-- the transaction is the writer of the page's lock
+abbrev pub writes_page : State → ℕ → Live → Bool
+writes_page s page t = has_lock (lock_of s page) t.writes
+
+-- it may read the page: it holds the page's lock, and the page is one that there is, or one that it wrote
+abbrev pub may_read : State → ℕ → Live → Bool
+may_read s page t = holds (lock_of s page) t && (is_page s page || has_sheet page t.written)
+
+-- it may journal the page: it did not yet
+abbrev pub may_journal : State → (id page : ℕ) → Live → Bool
+may_journal s id page t = writes_page s page t && (has_length s.content id && is_page s page && not (has_sheet page t.journalled))
 
 -- the size in pages that a transaction wrote into its page 1, and 0 where it wrote none
 abbrev pub wanted_count : Live → ℕ
@@ -77,6 +114,10 @@ is_next_header s written (Err fault) = false
 is_next_header s written (Ok h) =
     is_size_valid h && nat_le (count_of s) h.pages && nat_le (h.pages * page_size_of s) (2 ^ 30)
     && are_written (count_of s) h.pages written
+
+-- it may write these bytes to the page
+abbrev pub may_write : State → ℕ → List ℕ → Live → Bool
+may_write s page bytes t = writes_page s page t && (is_page_for s page bytes && is_writable s page t)
 
 -- where page 1 was written, it is one that a database may have next
 unfoldable pub may_commit : State → Live → Bool
@@ -107,18 +148,19 @@ makes_write s (Event-F.UndoBytes id) = true
 makes_write s Event-F.RecoverOp = recovers_by_write s.mode
 makes_write s _ = false
 
--- where an event that is no stop is enabled; those of locks and of read-only transactions never are yet, and one
--- transaction works at a time
+-- where an event that is no stop is enabled; those of read-only transactions never are yet
 abbrev pub is_step_enabled : State → Opened → Bool
-is_step_enabled s (Event-F.Begin id) = is_serving s && nat_lt id 16 && have_all_ended s
-is_step_enabled s (Event-F.Read id page) = where_working s id (λ t. is_page s page || has_sheet page t.written)
+is_step_enabled s (Event-F.Begin id) = is_serving s && nat_lt id 16 && is_free s id
+is_step_enabled s (Event-F.GrantRead id lock) = where_working s id (λ t. may_read_under s id lock)
+is_step_enabled s (Event-F.GrantWrite id lock) = where_working s id (λ t. may_write_under s id lock)
+is_step_enabled s (Event-F.Read id page) = where_working s id (may_read s page)
 is_step_enabled s (Event-F.OpenJournal id) = where_working s id (λ t. not (has_length s.content id))
-is_step_enabled s (Event-F.Journal id page) =
-    where_working s id (λ t. has_length s.content id && is_page s page && not (has_sheet page t.journalled))
-is_step_enabled s (Event-F.WriteBytes id page bytes) = where_working s id (λ t. is_page_for s page bytes && is_writable s page t)
+is_step_enabled s (Event-F.Journal id page) = where_working s id (may_journal s id page)
+is_step_enabled s (Event-F.WriteBytes id page bytes) = where_working s id (may_write s page bytes)
 is_step_enabled s (Event-F.CommitCut id) = where_working s id (may_commit s)
 is_step_enabled s (Event-F.UndoBytes id) = where_going s id has_changed
 is_step_enabled s (Event-F.RollCut id) = where_going s id (λ t. not (has_changed t))
+is_step_enabled s (Event-F.Release id lock) = is_serving s && where_live s id (λ t. is_ended t && holds lock t)
 is_step_enabled s Event-F.RecoverOp = not (is_serving s)
 is_step_enabled s _ = false
 

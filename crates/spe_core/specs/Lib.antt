@@ -1,5 +1,5 @@
 pub mod Opened
-pub mod Sheets
+pub mod Locks
 pub mod State
 pub mod Laid
 pub mod Opening
@@ -7,12 +7,8 @@ pub mod Enabled
 pub mod Changed
 pub mod Serial
 pub mod Sound
-pub mod Shown
-pub mod Stored
-pub mod Kept
 pub mod Phases
 pub mod Lives
-pub mod Plan
 pub mod Parts
 pub mod Found
 pub mod Becomes

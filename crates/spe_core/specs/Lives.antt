@@ -3,7 +3,7 @@ use Rattle.std.specs.Prelude.{◌≡◌, ℕ, List, Option, Some, None}
 use Rattle.std.specs.Option.{option_map_or}
 use Rattle.std.specs.Ordering.{nat_cmp}
 use Rattle.std.specs.BTreeMap.{insert_entry}
-use Rattle.spe_core.specs.Sheets.{Sheets}
+use Rattle.spe_stored.specs.Sheets.{Sheets}
 use Rattle.spe_core.specs.State.{Live, live_in}
 
 abbrev pub with_live_in : ℕ → Live → List (ℕ × Live) → List (ℕ × Live)

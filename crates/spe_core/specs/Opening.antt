@@ -3,7 +3,8 @@ use Rattle.std.specs.Prelude.{◌≡◌, ℕ, ◌≤◌, ◌^◌, true, List, []
 use Rattle.spe_model.specs.Header.{is_size_valid}
 use Rattle.spe_model.specs.Recovery.{recovered, recovered_header}
 use Rattle.spe_core.specs.State.{State, Serving}
-use Rattle.spe_core.specs.Laid.{alone, pages_of}
+use Rattle.spe_core.specs.Laid.{pages_of}
+use Rattle.spe_stored.specs.Stored.{alone}
 
 -- a number of locks: a power of two from 16 to 262144
 pub record AreSlots (slots : ℕ) : Type 0 where
@@ -27,7 +28,6 @@ opened bytes slots = record {
   commits = [];
   images = [];
   live = [];
-  locks = [];
   readers = [];
   mode = Serving;
 }

@@ -2,19 +2,22 @@
 use Rattle.std.specs.Prelude.{ℕ, ◌==◌, Bool, true, false, List, [], ◌∷◌, Option, Some, None, if◌then◌else◌}
 use Rattle.spe_model.specs.Content.{Content}
 use Rattle.spe_model.specs.Trace.{Operation}
-use Rattle.spe_core.specs.Sheets.{Sheets}
+use Rattle.spe_stored.specs.Sheets.{Sheets}
+use Rattle.spe_core.specs.Locks.{Locks}
 
 pub data Phase : Type 0 where
   Working : Phase
   Undoing : Phase
   Ended : Phase
 
--- A live transaction: the pages that it read as it found them, those that it journalled with their bytes before, and
--- those that it wrote.
+-- A live transaction: the pages that it read as it found them, those that it journalled with their bytes before, those
+-- that it wrote, and the locks of which it is a reader or the writer.
 pub record Live : Type 0 where
   pub seen : Sheets
   pub journalled : Sheets
   pub written : Sheets
+  pub reads : Locks
+  pub writes : Locks
   pub phase : Phase
 
 -- A committed transaction: the pages that it read, and those that it wrote.
@@ -27,11 +30,6 @@ pub record Image : Type 0 where
   pub page : ℕ
   pub stamp : ℕ
   pub bytes : List ℕ
-
--- A lock: the transactions that read under it, and the one that writes.
-pub record Lock : Type 0 where
-  pub readers : List ℕ
-  pub writer : Option ℕ
 
 -- A read-only transaction: after how many commits its pages are, once that is fixed, and what it read.
 pub record Reader : Type 0 where
@@ -51,7 +49,6 @@ pub record State : Type 0 where
   pub commits : List Committed
   pub images : List Image
   pub live : List (ℕ × Live)
-  pub locks : List (ℕ × Lock)
   pub readers : List (ℕ × Reader)
   pub mode : Mode
 

@@ -5,17 +5,17 @@ ghost use Rattle.std.specs.Option.{option_copied};
 ghost use Rattle.spe_model.specs.Header.{header_of};
 ghost use Rattle.spe_core.specs.declared.event.Event.{out-Event};
 ghost use Rattle.spe_core.specs.declared.event.Event.TheOpen.{Event-F};
-ghost use Rattle.spe_core.specs.Sheets.{has_sheet};
-ghost use Rattle.spe_core.specs.Enabled.{is_serving, is_page, is_writable, is_page_for, are_written, is_next_header, may_commit, has_changed, where_working, where_going, recovers_by_write, makes_write, is_step_enabled, is_stop_enabled, enabled};
+ghost use Rattle.spe_stored.specs.Sheets.{has_sheet};
+ghost use Rattle.spe_core.specs.Enabled.{is_serving, is_page, is_writable, is_page_for, are_written, is_next_header, may_commit, has_changed, where_live, where_working, where_going, recovers_by_write, makes_write, is_step_enabled, is_stop_enabled, enabled, is_free, lock_of, may_read, may_journal, may_write, may_read_under, may_write_under};
 ghost use Rattle.spe_core.specs.Found.{FindsLive};
 ghost use Rattle.spe_core.specs.Parts.{IsReady, state_of};
 
-use crate::bytes::{front_of, page_size, wanted_count};
+use crate::counts::wanted_count;
 use crate::event::Event;
 use crate::live::Live;
-use crate::operation::Operation;
 use crate::parts::{Mode, Parts};
 use spe_model::{FileNo, Header};
+use spe_stored::{Operation, front_of, page_size};
 use sqlite_items::Boxed;
 
 /// Whether the files are served.
@@ -58,11 +58,65 @@ fn is_page(parts: &Parts, page: u32) -> bool
     1 <= page && page <= parts.pages
 }
 
-#[tactic(auto, unfolding(crate::specs::Enabled::have_all_ended))]
+// Whether a transaction of this number is not live, or has ended and holds no lock.
+fn is_free(parts: &Parts, id: u8) -> bool
+    ensures { result ≡ is_free (state_of parts.now) id }
+{
+    match parts.live.get(id) {
+        Some(t) => t.is_ended() && t.holds_none(),
+        None => true,
+    }
+}
+
 fn may_begin(parts: &Parts, id: u8) -> bool
     ensures { result ≡ is_step_enabled (state_of parts.now) (Event-F.Begin id) }
 {
-    is_serving(parts) && id < 16 && parts.live.have_all_ended()
+    is_serving(parts) && id < 16 && is_free(parts, id)
+}
+
+fn may_grant_read(parts: &Parts, id: u8, lock: u32) -> bool
+    ensures { result ≡ is_step_enabled (state_of parts.now) (Event-F.GrantRead id lock) }
+{
+    match working(parts, id) {
+        Some(_) => lock < parts.slots && !parts.live.another_writes(id, lock),
+        None => false,
+    }
+}
+
+fn may_grant_write(parts: &Parts, id: u8, lock: u32) -> bool
+    ensures { result ≡ is_step_enabled (state_of parts.now) (Event-F.GrantWrite id lock) }
+{
+    match working(parts, id) {
+        Some(_) => lock < parts.slots && !parts.live.another_holds(id, lock),
+        None => false,
+    }
+}
+
+fn may_release(parts: &Parts, id: u8, lock: u32) -> bool
+    ensures { result ≡ is_step_enabled (state_of parts.now) (Event-F.Release id lock) }
+{
+    if !is_serving(parts) {
+        return false;
+    }
+    match parts.live.get(id) {
+        Some(t) => t.is_ended() && t.holds(lock),
+        None => false,
+    }
+}
+
+// The lock of a page.
+fn lock_of(parts: &Parts, page: u32) -> u32
+    requires { IsReady parts.now }
+    ensures { result ≡ lock_of (state_of parts.now) page }
+{
+    page % parts.slots
+}
+
+fn may_read_page(parts: &Parts, page: u32, t: &Live) -> bool
+    requires { IsReady parts.now }
+    ensures { result ≡ may_read (state_of parts.now) page t.now }
+{
+    t.holds(lock_of(parts, page)) && (is_page(parts, page) || t.has_written(page))
 }
 
 fn may_read(parts: &Parts, id: u8, page: u32) -> bool
@@ -70,7 +124,7 @@ fn may_read(parts: &Parts, id: u8, page: u32) -> bool
     ensures { result ≡ is_step_enabled (state_of parts.now) (Event-F.Read id page) }
 {
     match working(parts, id) {
-        Some(t) => is_page(parts, page) || t.has_written(page),
+        Some(t) => may_read_page(parts, page, t),
         None => false,
     }
 }
@@ -84,12 +138,20 @@ fn may_open(parts: &Parts, id: u8) -> bool
     }
 }
 
+fn may_journal_page(parts: &Parts, id: u8, page: u32, t: &Live) -> bool
+    requires { IsReady parts.now }
+    ensures { result ≡ may_journal (state_of parts.now) id page t.now }
+{
+    t.writes_under(lock_of(parts, page))
+        && (parts.files.has_bytes(id) && is_page(parts, page) && !t.has_journalled(page))
+}
+
 fn may_journal(parts: &Parts, id: u8, page: u32) -> bool
     requires { IsReady parts.now }
     ensures { result ≡ is_step_enabled (state_of parts.now) (Event-F.Journal id page) }
 {
     match working(parts, id) {
-        Some(t) => { parts.files.has_bytes(id) && is_page(parts, page) && !t.has_journalled(page) }
+        Some(t) => may_journal_page(parts, id, page, t),
         None => false,
     }
 }
@@ -116,12 +178,20 @@ fn is_writable(parts: &Parts, page: u32, t: &Live) -> bool
     t.has_journalled(page) || (parts.pages < page && page <= wanted_count(t))
 }
 
+fn may_write_page(parts: &Parts, page: u32, bytes: &[u8], t: &Live) -> bool
+    requires { IsReady parts.now }
+    ensures { result ≡ may_write (state_of parts.now) page bytes.now t.now }
+{
+    t.writes_under(lock_of(parts, page))
+        && (is_page_for(parts, page, bytes) && is_writable(parts, page, t))
+}
+
 fn may_write(parts: &Parts, id: u8, page: u32, bytes: &[u8]) -> bool
     requires { IsReady parts.now }
     ensures { result ≡ is_step_enabled (state_of parts.now) (Event-F.WriteBytes id page bytes.now) }
 {
     match working(parts, id) {
-        Some(t) => is_page_for(parts, page, bytes) && is_writable(parts, page, t),
+        Some(t) => may_write_page(parts, page, bytes, t),
         None => false,
     }
 }
@@ -203,6 +273,8 @@ fn is_step_enabled(parts: &Parts, event: &Event) -> bool
 {
     match event {
         Event::Begin { id } => may_begin(parts, *id),
+        Event::GrantRead { id, lock } => may_grant_read(parts, *id, *lock),
+        Event::GrantWrite { id, lock } => may_grant_write(parts, *id, *lock),
         Event::Read { id, page } => may_read(parts, *id, *page),
         Event::OpenJournal { id } => may_open(parts, *id),
         Event::Journal { id, page } => may_journal(parts, *id, *page),
@@ -210,6 +282,7 @@ fn is_step_enabled(parts: &Parts, event: &Event) -> bool
         Event::CommitCut { id } => may_cut(parts, *id),
         Event::UndoBytes { id } => may_undo(parts, *id),
         Event::RollCut { id } => may_roll(parts, *id),
+        Event::Release { id, lock } => may_release(parts, *id, *lock),
         Event::RecoverOp => !is_serving(parts),
         _ => false,
     }

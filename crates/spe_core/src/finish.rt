@@ -7,12 +7,11 @@ ghost use Rattle.spe_core.specs.Becomes.{Becomes, count_after, journalled_count}
 ghost use Rattle.spe_core.specs.Changed.{changed_at, cuts_of, images_of};
 ghost use Rattle.spe_core.specs.Parts.{IsReady, state_of};
 
-use crate::bytes::named_count;
 use crate::commit::Image;
-use crate::files::Files;
+use crate::counts::named_count;
 use crate::parts::{Parts, one_more};
-use crate::sheets::Sheets;
 use spe_model::FileNo;
+use spe_stored::{Files, Sheets};
 use std::alloc::AllocError;
 
 // The number of operations made, with the cut of a journal that has bytes.

@@ -2,25 +2,21 @@
 #![tactic(auto)]
 
 mod beginning;
-mod bytes;
 mod commit;
+mod counts;
 mod enabled;
 mod event;
-mod files;
 mod finish;
 mod live;
 mod lives;
+mod locks;
 mod log;
 mod machine;
 mod opening;
-mod operation;
 mod parts;
-mod plan;
 mod run;
-mod sheets;
 mod steps;
 mod stop;
-mod stored;
 mod work;
 mod writes;
 

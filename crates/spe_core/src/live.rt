@@ -1,7 +1,8 @@
 //! A live transaction.
 
-use crate::sheets::Sheets;
+use crate::locks::Locks;
 use spe_model::Bytes;
+use spe_stored::Sheets;
 use std::alloc::{AllocError, Global};
 use std::marker::Model;
 use std::mem;
@@ -18,12 +19,14 @@ pub enum Phase {
 }
 
 /// A live transaction: the pages that it read as it found them, those that it journalled with their
-/// bytes before, and those that it wrote.
+/// bytes before, those that it wrote, and the locks of which it is a reader or the writer.
 #[derive(Drop)]
 pub struct Live {
     seen: Sheets,
     journalled: Sheets,
     written: Sheets,
+    reads: Locks,
+    writes: Locks,
     phase: Phase,
 }
 
@@ -33,16 +36,17 @@ impl Model for Live {
 
     ghost Value = { State };
 
-    ghost view = { λ t. record { seen = t.seen; journalled = t.journalled; written = t.written; phase = phase_of t.phase } };
+    ghost view = { λ t. record { seen = t.seen; journalled = t.journalled; written = t.written; reads = t.reads; writes = t.writes; phase = phase_of t.phase } };
 }
 
 impl Live {
-    ghost use Rattle.std.specs.Prelude.{◌≡◌, ◌||◌, OnOk, OnErr, length};
+    ghost use Rattle.std.specs.Prelude.{◌≡◌, ◌||◌, ◌&&◌, OnOk, OnErr, length};
     ghost use Rattle.std.specs.Option.{option_copied, option_map};
-    ghost use Rattle.spe_core.specs.Sheets.{sheet_at, has_sheet, with_sheet, without_sheet};
+    ghost use Rattle.spe_stored.specs.Sheets.{sheet_at, has_sheet, with_sheet, without_sheet};
     ghost use Rattle.spe_core.specs.State.{is_working, is_ended, Undoing};
-    ghost use Rattle.spe_core.specs.Enabled.{has_changed};
-    ghost use Rattle.spe_core.specs.Changed.{fresh, undo_of, ended};
+    ghost use Rattle.spe_core.specs.Enabled.{has_changed, holds, holds_none};
+    ghost use Rattle.spe_core.specs.Changed.{fresh, undo_of, ended, reading_under, released, writing_under};
+    ghost use Rattle.spe_core.specs.Locks.{has_lock};
 
     /// A transaction that has done nothing yet.
     pub fn new(alloc: Global) -> Live
@@ -52,6 +56,8 @@ impl Live {
             seen: Sheets::new(alloc),
             journalled: Sheets::new(alloc),
             written: Sheets::new(alloc),
+            reads: Locks::new(alloc),
+            writes: Locks::new(alloc),
             phase: Phase::Working,
         }
     }
@@ -117,6 +123,51 @@ impl Live {
         ensures { result ≡ has_changed self.now }
     {
         self.first_changed().is_some()
+    }
+
+    /// Whether it is the writer of a lock.
+    pub fn writes_under(&self, lock: u32) -> bool
+        ensures { result ≡ has_lock lock self.now.writes }
+    {
+        self.writes.has(lock)
+    }
+
+    /// Whether it is a reader of a lock, or its writer.
+    pub fn holds(&self, lock: u32) -> bool
+        ensures { result ≡ holds lock self.now }
+    {
+        self.reads.has(lock) || self.writes.has(lock)
+    }
+
+    /// Whether it holds no lock.
+    pub fn holds_none(&self) -> bool
+        ensures { result ≡ holds_none self.now }
+    {
+        self.reads.is_empty() && self.writes.is_empty()
+    }
+
+    /// Becomes a reader of a lock.
+    pub fn read_under(&mut self, lock: u32) -> Result<(), AllocError>
+        ensures ok { OnOk result (self.new ≡ reading_under lock self.old) }
+        ensures err { OnErr result (self.new ≡ self.old) }
+    {
+        self.reads.put(lock)
+    }
+
+    /// Becomes the writer of a lock.
+    pub fn write_under(&mut self, lock: u32) -> Result<(), AllocError>
+        ensures ok { OnOk result (self.new ≡ writing_under lock self.old) }
+        ensures err { OnErr result (self.new ≡ self.old) }
+    {
+        self.writes.put(lock)
+    }
+
+    /// Holds a lock no more.
+    pub fn release(&mut self, lock: u32)
+        ensures { self.new ≡ released lock self.old }
+    {
+        self.reads.remove(lock);
+        self.writes.remove(lock);
     }
 
     /// Lists a page as read.

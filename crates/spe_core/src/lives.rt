@@ -1,8 +1,8 @@
 //! The live transactions, by their numbers.
 
 use crate::live::Live;
-use crate::sheets::Sheets;
 use spe_model::Bytes;
+use spe_stored::Sheets;
 use std::alloc::{AllocError, Global};
 use std::collections::BTreeMap;
 use std::marker::Model;
@@ -28,10 +28,11 @@ impl Model for Lives {
 
 impl Lives {
     ghost use Rattle.std.specs.Prelude.{◌≡◌, [], false, IsTrue, OnOk, OnErr, List, Some, ℕ};
-    ghost use Rattle.std.specs.List.{list_all};
     ghost use Rattle.std.specs.Option.{option_copied, option_map};
-    ghost use Rattle.spe_core.specs.State.{Live as State, live_in, is_ended};
-    ghost use Rattle.spe_core.specs.Changed.{with_seen, with_read, with_journalled, with_written, undo_of_live, undone, ended};
+    ghost use Rattle.spe_core.specs.State.{live_in};
+    ghost use Rattle.spe_core.specs.Changed.{with_seen, with_read, with_journalled, with_written, undo_of_live, undone, ended, reading_under, released, writing_under};
+    ghost use Rattle.spe_core.specs.Enabled.{another_has, holds};
+    ghost use Rattle.spe_core.specs.Locks.{has_lock};
     ghost use Rattle.spe_core.specs.Lives.{updated_in, with_live_in, Leaves};
 
     /// No transactions.
@@ -50,16 +51,28 @@ impl Lives {
         self.map.get(&id)
     }
 
-    /// Whether each has ended.
-    pub fn have_all_ended(&self) -> bool
-        ensures { result ≡ list_all (λ (t : ℕ × State). is_ended t.1) self.now }
+    /// Whether a transaction of another number is the writer of a lock.
+    pub fn another_writes(&self, id: u8, lock: u32) -> bool
+        ensures { result ≡ another_has id (λ t. has_lock lock t.writes) self.now }
     {
-        for (_, t) in &self.map {
-            if !t.is_ended() {
-                return false;
+        for (other, t) in &self.map {
+            if *other != id && t.writes_under(lock) {
+                return true;
             }
         }
-        true
+        false
+    }
+
+    /// Whether a transaction of another number holds a lock.
+    pub fn another_holds(&self, id: u8, lock: u32) -> bool
+        ensures { result ≡ another_has id (holds lock) self.now }
+    {
+        for (other, t) in &self.map {
+            if *other != id && t.holds(lock) {
+                return true;
+            }
+        }
+        false
     }
 
     /// Makes this the transaction of a number.
@@ -87,6 +100,38 @@ impl Lives {
             Some(t) => t.has_read(page),
             None => true,
         }
+    }
+
+    /// The transaction of a number becomes a reader of a lock.
+    pub fn read_under(&mut self, id: u8, lock: u32) -> Result<(), AllocError>
+        ensures ok { OnOk result (self.new ≡ updated_in id (reading_under lock) self.old) }
+        ensures err { OnErr result (self.new ≡ self.old) }
+    {
+        let Some(t) = self.map.get_mut(&id) else {
+            return Ok(());
+        };
+        t.read_under(lock)
+    }
+
+    /// It becomes the writer of a lock.
+    pub fn write_under(&mut self, id: u8, lock: u32) -> Result<(), AllocError>
+        ensures ok { OnOk result (self.new ≡ updated_in id (writing_under lock) self.old) }
+        ensures err { OnErr result (self.new ≡ self.old) }
+    {
+        let Some(t) = self.map.get_mut(&id) else {
+            return Ok(());
+        };
+        t.write_under(lock)
+    }
+
+    /// It holds a lock no more.
+    pub fn release(&mut self, id: u8, lock: u32)
+        ensures { self.new ≡ updated_in id (released lock) self.old }
+    {
+        let Some(t) = self.map.get_mut(&id) else {
+            return;
+        };
+        t.release(lock);
     }
 
     /// Lists a page as read by the transaction of a number.

@@ -1,12 +1,12 @@
 //! The core.
 
 use crate::beginning::Beginning;
-use crate::bytes::named_count;
 use crate::commit::Commits;
-use crate::files::Files;
+use crate::counts::named_count;
 use crate::lives::Lives;
 use crate::parts::{Mode, Parts};
 use spe_model::{Bytes, FileNo};
+use spe_stored::Files;
 use std::alloc::{AllocError, Global};
 use std::marker::Model;
 

@@ -4,8 +4,8 @@ ghost use Rattle.std.specs.Prelude.{◌≡◌, ◌↔◌, IsTrue};
 ghost use Rattle.spe_core.specs.Opening.{IsOpening};
 ghost use Rattle.spe_core.specs.Whole.{is_whole};
 
-use crate::bytes::front_of;
 use spe_model::Header;
+use spe_stored::front_of;
 
 // Whether the pages that a header names are all in a file of so many bytes.
 fn is_whole(header: &Header, size: u64) -> bool

@@ -4,9 +4,8 @@ ghost use Rattle.std.specs.Prelude.{◌≡◌, ◌+◌, IfOk};
 
 use crate::beginning::Beginning;
 use crate::commit::{Commits, Image};
-use crate::files::Files;
 use crate::lives::Lives;
-use crate::operation::Operation;
+use spe_stored::{Files, Operation};
 use std::alloc::{AllocError, Global};
 use std::collections::VecDeque;
 

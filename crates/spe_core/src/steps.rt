@@ -15,7 +15,9 @@ use crate::finish::{commit_cut, roll_cut};
 use crate::machine::Core;
 use crate::parts::Parts;
 use crate::stop::{recover_op, stop};
-use crate::work::{begin, journal, open_journal, read, undo_bytes, write_bytes};
+use crate::work::{
+    begin, grant_read, grant_write, journal, open_journal, read, release, undo_bytes, write_bytes,
+};
 use std::alloc::AllocError;
 
 // Makes an event that is enabled.
@@ -28,6 +30,8 @@ fn make(parts: &mut Parts, event: &Event) -> Result<(), AllocError>
 {
     match event {
         Event::Begin { id } => begin(parts, *id),
+        Event::GrantRead { id, lock } => grant_read(parts, *id, *lock),
+        Event::GrantWrite { id, lock } => grant_write(parts, *id, *lock),
         Event::Read { id, page } => read(parts, *id, *page),
         Event::OpenJournal { id } => open_journal(parts, *id),
         Event::Journal { id, page } => journal(parts, *id, *page),
@@ -35,6 +39,10 @@ fn make(parts: &mut Parts, event: &Event) -> Result<(), AllocError>
         Event::CommitCut { id } => commit_cut(parts, *id),
         Event::UndoBytes { id } => undo_bytes(parts, *id),
         Event::RollCut { id } => roll_cut(parts, *id),
+        Event::Release { id, lock } => {
+            release(parts, *id, *lock);
+            Ok(())
+        }
         Event::Stop { next, bytes } => stop(parts, next, *bytes),
         Event::RecoverOp => recover_op(parts),
         _ => Ok(()),

@@ -11,15 +11,12 @@ ghost use Rattle.spe_core.specs.Becomes.{Becomes};
 ghost use Rattle.spe_core.specs.Changed.{changed_at, recovery_left, recovery_op};
 ghost use Rattle.spe_core.specs.Enabled.{count_of};
 ghost use Rattle.spe_core.specs.Parts.{IsReady, mode_of, state_of};
-ghost use Rattle.spe_core.specs.Shown.{all_shown, ops_shown, write_shown};
+ghost use Rattle.spe_stored.specs.Shown.{all_shown, ops_shown, write_shown};
 
-use crate::bytes::page_size;
 use crate::event::Event;
-use crate::files::Files;
-use crate::operation::{Operation, Write};
 use crate::parts::{Mode, Parts, one_more};
-use crate::plan::rule_of;
 use crate::writes::torn_write;
+use spe_stored::{Files, Operation, Write, page_size, rule_of};
 use sqlite_items::Boxed;
 use std::alloc::{AllocError, Global};
 use std::collections::VecDeque;

@@ -8,11 +8,11 @@ ghost use Rattle.spe_core.specs.Changed.{changed_at};
 ghost use Rattle.spe_core.specs.Enabled.{is_step_enabled};
 ghost use Rattle.spe_core.specs.Parts.{IsReady, state_of};
 
-use crate::bytes::page_size;
 use crate::live::Live;
 use crate::parts::{Parts, one_more};
 use crate::writes::{head_write, record_write};
 use spe_model::{Bytes, FileNo};
+use spe_stored::page_size;
 use std::alloc::AllocError;
 
 // A copy of a page of the file.
@@ -30,6 +30,29 @@ pub fn begin(parts: &mut Parts, id: u8) -> Result<(), AllocError>
     ensures err { OnErr result (Becomes parts.old parts.new (state_of parts.old)) }
 {
     parts.live.put(id, Live::new(parts.alloc))
+}
+
+/// A transaction becomes a reader of a lock.
+pub fn grant_read(parts: &mut Parts, id: u8, lock: u32) -> Result<(), AllocError>
+    ensures ok { OnOk result (Becomes parts.old parts.new (changed_at (state_of parts.old) (Event-F.GrantRead id lock))) }
+    ensures err { OnErr result (Becomes parts.old parts.new (state_of parts.old)) }
+{
+    parts.live.read_under(id, lock)
+}
+
+/// A transaction becomes the writer of a lock.
+pub fn grant_write(parts: &mut Parts, id: u8, lock: u32) -> Result<(), AllocError>
+    ensures ok { OnOk result (Becomes parts.old parts.new (changed_at (state_of parts.old) (Event-F.GrantWrite id lock))) }
+    ensures err { OnErr result (Becomes parts.old parts.new (state_of parts.old)) }
+{
+    parts.live.write_under(id, lock)
+}
+
+/// A transaction that has ended holds a lock no more.
+pub fn release(parts: &mut Parts, id: u8, lock: u32)
+    ensures { Becomes parts.old parts.new (changed_at (state_of parts.old) (Event-F.Release id lock)) }
+{
+    parts.live.release(id, lock);
 }
 
 /// A page of the file is read.

@@ -5,14 +5,13 @@ ghost use Rattle.spe_core.specs.declared.event.Event.{out-Event};
 ghost use Rattle.spe_core.specs.State.{live_of};
 ghost use Rattle.spe_core.specs.Changed.{head_write, record_write, page_write, undo_of_live, undo_writes, operations_of, recovery_op, torn_first, torn_of};
 ghost use Rattle.spe_core.specs.Parts.{IsReady, mode_of, state_of};
-ghost use Rattle.spe_core.specs.Shown.{write_shown, writes_shown, torn_shown};
+ghost use Rattle.spe_stored.specs.Shown.{write_shown, writes_shown, torn_shown};
 
-use crate::bytes::{number_at, page_size};
 use crate::event::Event;
-use crate::operation::{Operation, Write, copy_of, page_write, torn};
 use crate::parts::{Mode, Parts};
 use spe_journal::{put_head, put_record};
 use spe_model::{Bytes, FileNo};
+use spe_stored::{Operation, Write, copy_of, number_at, page_size, page_write, torn};
 use sqlite_items::Boxed;
 use std::alloc::AllocError;
 

@@ -12,10 +12,10 @@ use Rattle.spe_space.specs.declared.fault.TreeFault.TheVariants.{Space, Corrupt}
 use Rattle.spe_space.specs.declared.fault.SpaceFault.{SpaceFault}
 use Rattle.spe_space.specs.declared.fault.SpaceFault.TheVariants.{Busy, Read, Stopped, Full, PageOut, Corrupt as Spoilt, Memory}
 use Rattle.spe_space.specs.declared.pages.Pages.{Ghosts}
-use Rattle.spe_space.specs.Calls.{Reads, sight}
+use Rattle.spe_space.specs.Calls.{Reads, reads_both, sight}
 use Rattle.spe_space.specs.Found.{Answers, OnMissing, missing_weaker}
 use Rattle.spe_space.specs.Front.{number_in}
-use Rattle.spe_space.specs.Outcome.{IsInside, IsSure, OnPageOut}
+use Rattle.spe_space.specs.Outcome.{IsInside, IsSure, OnCorrupt, OnPageOut}
 use Rattle.spe_frame.specs.Held.{AreHeld, IsReady, Shifts, Spares}
 use Rattle.spe_frame.specs.Laws.{ReadsShift, ShiftsBoth, SparesBoth, SparesMore}
 use Rattle.spe_frame.specs.Times.{Lacks, times}
@@ -128,18 +128,43 @@ pub inside_tree : {P : Type 0} (g : Ghosts P) (opening : Opening) (s : P) (pages
     → (n : ℕ) → 0 < times n (own_pages g s pages alone.tree) → IsInside (number_in (sight g s pages)) n
 inside_tree g opening s pages db name entry alone n has = let is = alone.held.used n has in (is.low, is.high)
 
-sure_page : (number : ℕ) (f : SpaceFault) → IsSure number f → OnPageOut (IsInside number) f
-sure_page number (Busy page word) is = tt
-sure_page number Read is = tt
-sure_page number (Stopped op) is = tt
-sure_page number (Full pages) is = tt
-sure_page number (PageOut page pages) is = is
-sure_page number (Spoilt page) is = tt
-sure_page number Memory is = tt
+-- a sure fault of the space calls no page corrupt at all
+sure_page : {P : Type 0} (g : Ghosts P) (old new : P) (number : ℕ) (f : SpaceFault) → IsSure number f → IsSound g old new number (Space f)
+sure_page g old new number (Busy page word) is = (tt, tt)
+sure_page g old new number Read is = (tt, tt)
+sure_page g old new number (Stopped op) is = (tt, tt)
+sure_page g old new number (Full pages) is = (tt, tt)
+sure_page g old new number (PageOut page pages) is = (is, tt)
+sure_page g old new number (Spoilt page) is = absurd is
+sure_page g old new number Memory is = (tt, tt)
 
-pub sure_fault : (number : ℕ) (fault : TreeFault) → IsSureOfTree number fault → IsSound number fault
-sure_fault number (Space f) is = sure_page number f is
-sure_fault number (Corrupt page) is = is
+pub sure_fault : {P : Type 0} (g : Ghosts P) (old new : P) (number : ℕ) (fault : TreeFault) → IsSureOfTree number fault → IsSound g old new number fault
+sure_fault g old new number (Space f) is = sure_page g old new number f is
+sure_fault g old new number (Corrupt page) is = is
+
+-- after gets alone nothing was put
+nothing_put : {P : Type 0} (g : Ghosts P) (old new : P) (f : SpaceFault) → Reads g old new → OnCorrupt (Reads g old new) f
+nothing_put g old new (Busy page word) reads = tt
+nothing_put g old new Read reads = tt
+nothing_put g old new (Stopped op) reads = tt
+nothing_put g old new (Full pages) reads = tt
+nothing_put g old new (PageOut page pages) reads = tt
+nothing_put g old new (Spoilt page) reads = reads
+nothing_put g old new Memory reads = tt
+
+pub sound_read : {P : Type 0} (g : Ghosts P) (old new : P) (number : ℕ) (f : SpaceFault) → Reads g old new → OnPageOut (IsInside number) f → IsSound g old new number (Space f)
+sound_read g old new number f reads within = (within, nothing_put g old new f reads)
+
+-- a sound fault of a call is a sound one of that call after gets
+pub sound_after : {P : Type 0} (g : Ghosts P) (s mid new : P) (number : ℕ) (fault : TreeFault) → Reads g s mid → IsSound g mid new number fault → IsSound g s new number fault
+sound_after g s mid new number (Space (Busy page word)) reads is = is
+sound_after g s mid new number (Space Read) reads is = is
+sound_after g s mid new number (Space (Stopped op)) reads is = is
+sound_after g s mid new number (Space (Full pages)) reads is = is
+sound_after g s mid new number (Space (PageOut page pages)) reads is = is
+sound_after g s mid new number (Space (Spoilt page)) reads is = (is.0, reads_both g s mid new reads is.1)
+sound_after g s mid new number (Space Memory) reads is = is
+sound_after g s mid new number (Corrupt page) reads is = is
 
 -- what is found in a list is there at least once
 pub contains_times : (xs : List ℕ) (n : ℕ) → Contains xs n → 0 < times n xs
@@ -174,19 +199,21 @@ find_gets g opening s new pages db name entry rowid law agrees ready reads adds 
       ])
     ])
 
-sound_fault : {Y : Type 0} (number : ℕ) (all : List ℕ) (there : Y) (fault : TreeFault) → Answers (λ (y : Y). y) there (Err fault) → OnMissing (Contains all) fault
-    → ((n : ℕ) → Contains all n → IsInside number n) → IsSound number fault
-sound_fault number all there (Space f) answers missing within = missing_weaker (Contains all) (IsInside number) (Space f) within missing
-sound_fault number all there (Corrupt page) answers missing within = answers
+sound_fault : {P Y : Type 0} (g : Ghosts P) (old new : P) (number : ℕ) (all : List ℕ) (there : Y) (fault : TreeFault) → Reads g old new → Answers (λ (y : Y). y) there (Err fault)
+    → OnMissing (Contains all) fault → ((n : ℕ) → Contains all n → IsInside number n) → IsSound g old new number fault
+sound_fault g old new number all there (Space f) reads answers missing within =
+    sound_read g old new number f reads (missing_weaker (Contains all) (IsInside number) (Space f) within missing)
+sound_fault g old new number all there (Corrupt page) reads answers missing within = answers
 
 -- a fault of such a search is a sound one
 pub sound_gets : {P Y : Type 0} (g : Ghosts P) (opening : Opening) (s new : P) (pages : Paging) (db : Database) (name : List ℕ) (entry : Entry) (there : Y) (fault : TreeFault) → Reads g s new
     → (alone : TableAlone g opening s pages db name entry) → Answers (λ (y : Y). y) there (Err fault)
     → OnMissing (Contains (all_pages (g.used s) (sight g s pages) alone.tree.height entry.root)) fault
-    → IsSound (number_in (sight g new pages)) fault
+    → IsSound g s new (number_in (sight g new pages)) fault
 sound_gets g opening s new pages db name entry there fault reads alone answers missing =
     let all = all_pages (g.used s) (sight g s pages) alone.tree.height entry.root in
     let within : (n : ℕ) → Contains all n → IsInside (number_in (sight g s pages)) n = λ n has.
     inside_tree g opening s pages db name entry alone n
     (subst (λ (r : ℕ). 0 < times n (all_pages (g.used s) (sight g s pages) alone.tree.height r)) (sym alone.has.grown.0.1) (contains_times all n has)) in
-    rw reads.laid (sound_fault (number_in (sight g s pages)) all there fault answers missing within)
+    let same : number_in (sight g s pages) ≡ number_in (sight g new pages) = rw reads.laid refl in
+    subst (λ (number : ℕ). IsSound g s new number fault) same (sound_fault g s new (number_in (sight g s pages)) all there fault reads answers missing within)

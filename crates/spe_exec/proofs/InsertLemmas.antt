@@ -1,6 +1,6 @@
 -- An open table that gets a row by INSERT.
 use Rattle.std.proofs.Common.{◌≡◌, ℕ, suc, ℤ, pos, ◌+◌, Bool, true, false, List, [], ◌∷◌, length, map, Option, Some, None, is_some, Result, Ok, Err, refl, sym, ap, ◌∙◌, subst, arith}
-use Rattle.std.specs.Prelude.{◌+ℤ◌, nat_lt, if◌then◌else◌}
+use Rattle.std.specs.Prelude.{◌+ℤ◌, IfErr, nat_lt, if◌then◌else◌}
 use Rattle.std.specs.List.{enumerate_from}
 use Rattle.std.specs.Option.{option_map_or, unwrap_or}
 use Rattle.std.specs.Ordering.{int_eq}
@@ -47,7 +47,7 @@ use Rattle.spe_modify.proofs.ServedLemmas.{ascend, rows_are}
 use Rattle.spe_exec.specs.Inserts.{Carries, IsRecordOf, IsSound, given_at, inserted_by, length_at, long_refusal, next_at, put_in, record_size, refused_long}
 use Rattle.spe_exec.proofs.RowsLemmas.{padded_done}
 use Rattle.spe_exec.proofs.StoredLemmas.{first_free, last_fits, last_is, next_free}
-use Rattle.spe_exec.proofs.GetsLemmas.{own_pages, served_read, spares_after, spares_read, sure_fault}
+use Rattle.spe_exec.proofs.GetsLemmas.{own_pages, served_read, sound_after, spares_after, spares_read, sure_fault}
 
 -- the gets between two states are of the table's own tree
 abbrev pub GetsOwn : {P : Type 0} (g : Ghosts P) (s new : P) → Paging → TableOf → Type 0
@@ -74,8 +74,13 @@ carries_read g s new pages root t size outcome reply is agrees reads more gets e
 
 -- a fault after gets alone
 pub fault_read : {P : Type 0} (g : Ghosts P) (s new : P) (pages : Paging) (t : TableOf) (size : ℕ) (outcome : List Row × Reply) (fault : TreeFault) → SparesMore g → GetsOwn g s new pages t
-    → IsSound (number_in (sight g new pages)) fault → Carries g s new pages t size outcome (Err fault)
+    → IsSound g s new (number_in (sight g new pages)) fault → Carries g s new pages t size outcome (Err fault)
 fault_read g s new pages t size outcome fault more gets sound = record { given = tt; few = spares_read g s new pages t size more gets; likely = λ unsealed. sound }
+
+errs_after : {P : Type 0} (g : Ghosts P) (s mid new : P) (number : ℕ) (result : Result Reply TreeFault) → Reads g s mid → IfErr result (IsSound g mid new number)
+    → IfErr result (IsSound g s new number)
+errs_after g s mid new number (Ok reply) reads is = tt
+errs_after g s mid new number (Err fault) reads is = sound_after g s mid new number fault reads is
 
 -- a call after gets
 pub carries_after : {P : Type 0} (g : Ghosts P) (s mid new : P) (pages : Paging) (t : TableOf) (size : ℕ) (outcome : List Row × Reply) (result : Result Reply TreeFault) → ShiftsBoth g → SparesBoth g
@@ -83,7 +88,7 @@ pub carries_after : {P : Type 0} (g : Ghosts P) (s mid new : P) (pages : Paging)
 carries_after g s mid new pages t size outcome result both spares reads gets carries = record {
   given = carries.given;
   few = spares_after g s mid new pages t size both spares reads gets carries.few;
-  likely = λ unsealed. carries.likely (reads.sealed ∙ unsealed);
+  likely = λ unsealed. errs_after g s mid new (number_in (sight g new pages)) result reads (carries.likely (reads.sealed ∙ unsealed));
 }
 
 -- nothing is got
@@ -137,7 +142,7 @@ put_there g s new pages root t rowid values size is there few =
 pub put_fails : {P : Type 0} (g : Ghosts P) (s new : P) (pages : Paging) (t : TableOf) (size : ℕ) (outcome : List Row × Reply) (fault : TreeFault) → SparesOthers g s new pages t size
     → (g.sealed s ≡ false → IsSureOfTree (number_in (sight g new pages)) fault) → Carries g s new pages t size outcome (Err fault)
 put_fails g s new pages t size outcome fault few likely =
-    record { given = tt; few = few; likely = λ unsealed. sure_fault (number_in (sight g new pages)) fault (likely unsealed) }
+    record { given = tt; few = few; likely = λ unsealed. sure_fault g s new (number_in (sight g new pages)) fault (likely unsealed) }
 
 -- what a row becomes that is put, by the length of its record
 put_short : (table : TableDef) (rows : List Row) (s : Statement) (rowid : ℤ) → nat_lt most_record (length_at table s rowid) ≡ false

@@ -49,7 +49,7 @@ use Rattle.spe_exec.specs.Inserts.{IsSound}
 use Rattle.spe_exec.specs.Misses.{IsAskedFor}
 use Rattle.spe_exec.specs.Run.{AreRowsOf, stored_chosen}
 use Rattle.spe_exec.specs.Updates.{CarriesRows, pages_of_written}
-use Rattle.spe_exec.proofs.GetsLemmas.{alone_read, inside_tree, own_pages, same_own, served_read, sure_fault, tree_all, tree_there}
+use Rattle.spe_exec.proofs.GetsLemmas.{alone_read, inside_tree, own_pages, same_own, served_read, sound_read, sure_fault, tree_all, tree_there}
 use Rattle.spe_exec.proofs.InsideLemmas.{one_height}
 use Rattle.spe_exec.proofs.InsertLemmas.{GetsOwn}
 use Rattle.spe_exec.proofs.ReadsLemmas.{chosen_are}
@@ -76,17 +76,17 @@ chosen_gets g s new pages root t conds law is agrees reads adds alone =
           ])
     ])
 
-sound_by : {Y : Type 0} (number : ℕ) (view : Y → List (ℤ × List ℕ)) (there : List (ℤ × List ℕ)) (asked : ℕ → Type 0) (fault : TreeFault) → Answers view there (Err fault) → OnMissing asked fault
-    → ((n : ℕ) → asked n → IsInside number n) → IsSound number fault
-sound_by number view there asked (Space f) answers missing within = missing_weaker asked (IsInside number) (Space f) within missing
-sound_by number view there asked (Corrupt page) answers missing within = answers
+sound_by : {P Y : Type 0} (g : Ghosts P) (old new : P) (number : ℕ) (view : Y → List (ℤ × List ℕ)) (there : List (ℤ × List ℕ)) (asked : ℕ → Type 0) (fault : TreeFault) → Reads g old new → Answers view there (Err fault)
+    → OnMissing asked fault → ((n : ℕ) → asked n → IsInside number n) → IsSound g old new number fault
+sound_by g old new number view there asked (Space f) reads answers missing within = sound_read g old new number f reads (missing_weaker asked (IsInside number) (Space f) within missing)
+sound_by g old new number view there asked (Corrupt page) reads answers missing within = answers
 
 -- a fault of the walk is a sound one
 pub chosen_sound : {P Y : Type 0} (g : Ghosts P) (s new : P) (pages : Paging) (root : ℕ) (t : TableOf) (conds : List Cond) (view : Y → List (ℤ × List ℕ)) (fault : TreeFault) → IsOpen g s pages root t → Reads g s new
     → (alone : TableAlone g t.opening s pages t.db t.name t.entry)
     → ((height : ℕ) → IsTableTree (g.used s) (sight g s pages) height root → Answers view (stored_chosen conds (tree_rows (g.used s) (sight g s pages) height root)) (Err fault))
     → ((height : ℕ) → IsTableTree (g.used s) (sight g s pages) height root → OnMissing (IsAskedFor (g.used s) (sight g s pages) root conds) fault)
-    → IsSound (number_in (sight g new pages)) fault
+    → IsSound g s new (number_in (sight g new pages)) fault
 chosen_sound g s new pages root t conds view fault is reads alone found misses =
     let u = g.used s in
     let p = sight g s pages in
@@ -94,7 +94,8 @@ chosen_sound g s new pages root t conds view fault is reads alone found misses =
     let tree = subst (λ (r : ℕ). IsTableTree u p alone.tree.height r) is.root_is (tree_there g t.opening s pages t.db t.name t.entry alone) in
     let all : All (λ n. 0 < times n own) (all_pages u p alone.tree.height root) =
     subst (λ (r : ℕ). All (λ n. 0 < times n own) (all_pages u p alone.tree.height r)) is.root_is (tree_all g t.opening s pages t.db t.name t.entry alone) in
-    rw reads.laid (sound_by (number_in p) view (stored_chosen conds (tree_rows u p alone.tree.height root)) (IsAskedFor u p root conds) fault (found alone.tree.height tree) (misses alone.tree.height tree) (λ n asked.
+    let number : number_in p ≡ number_in (sight g new pages) = rw reads.laid refl in
+    subst (λ (k : ℕ). IsSound g s new k fault) number (sound_by g s new (number_in p) view (stored_chosen conds (tree_rows u p alone.tree.height root)) (IsAskedFor u p root conds) fault reads (found alone.tree.height tree) (misses alone.tree.height tree) (λ n asked.
     let high : alone.tree.height ≡ asked.height = one_height u p alone.tree.height asked.height 0 18446744073709551616 0 18446744073709551616 root tree.1 asked.tree.1 in
     let there : All (λ n. 0 < times n own) (all_pages u p asked.height root) = subst (λ (h : ℕ). All (λ n. 0 < times n own) (all_pages u p h root)) high all in
     inside_tree g t.opening s pages t.db t.name t.entry alone n (elim asked.page [
@@ -134,7 +135,7 @@ rows_read g s new pages t allocs more gets alone = more s new pages (own_pages g
 
 -- a fault after gets alone, and a refusal
 pub fault_rows : {P : Type 0} (g : Ghosts P) (s new : P) (pages : Paging) (t : TableOf) (allocs : ℕ) (outcome : List Row × Reply) (fault : TreeFault) → SparesMore g → GetsOwn g s new pages t
-    → IsSound (number_in (sight g new pages)) fault → CarriesRows g s new pages t allocs outcome (Err fault)
+    → IsSound g s new (number_in (sight g new pages)) fault → CarriesRows g s new pages t allocs outcome (Err fault)
 fault_rows g s new pages t allocs outcome fault more gets sound = record { given = tt; few = rows_read g s new pages t allocs more gets; likely = λ unsealed. sound }
 
 -- the records as rows, their number and their pages
@@ -240,5 +241,5 @@ pub fails_rows : {P : Type 0} (g : Ghosts P) (s mid new : P) (pages : Paging) (t
 fails_rows g s mid new pages t q given conds stored fault update e c are both spares reads gets few likely = record {
   given = tt;
   few = spares_written g s mid new pages t q given conds stored update e c are both spares reads gets few;
-  likely = λ unsealed. sure_fault (number_in (sight g new pages)) fault (likely (reads.sealed ∙ unsealed));
+  likely = λ unsealed. sure_fault g s new (number_in (sight g new pages)) fault (likely (reads.sealed ∙ unsealed));
 }

@@ -20,7 +20,7 @@ use Rattle.spe_space.specs.declared.fault.TreeFault.TheVariants.{Space, Corrupt}
 use Rattle.spe_space.specs.declared.pages.Pages.{Ghosts}
 use Rattle.spe_space.specs.Calls.{Reads, sight}
 use Rattle.spe_space.specs.Front.{number_in}
-use Rattle.spe_space.specs.Outcome.{IsInside, OnPageOut}
+use Rattle.spe_space.specs.Outcome.{IsInside, OnCorrupt, OnPageOut}
 use Rattle.spe_served.specs.Change.{IsServed, entry_named}
 use Rattle.spe_served.specs.Lists.{ListsStand}
 use Rattle.spe_slow.specs.Answers.{inserted_at, is_taken, rowid_after}
@@ -36,17 +36,18 @@ pub record Gives {P : Type 0} (g : Ghosts P) (new : P) (pages : Paging) (t : Tab
   pub reply_is : reply ≡ outcome.1
   pub served : IsServed g t.opening new pages (with_rows t.name outcome.0 t.db)
 
--- of served pages none is called corrupt, and a page that is asked for in vain is one that there is
-abbrev pub IsSound : ℕ → TreeFault → Type 0
-IsSound number (Space f) = OnPageOut (IsInside number) f
-IsSound number (Corrupt page) = ⊥
+-- Of served pages none is called corrupt, and a page that is asked for in vain is one that there is. The space itself calls
+-- one corrupt only of a get, before anything was put.
+abbrev pub IsSound : {P : Type 0} (g : Ghosts P) (old new : P) (number : ℕ) → TreeFault → Type 0
+IsSound g old new number (Space f) = OnPageOut (IsInside number) f × OnCorrupt (Reads g old new) f
+IsSound g old new number (Corrupt page) = ⊥
 
 -- The answer is that of what the table becomes; whatever it is, all that is in use apart from the table's tree stays, for a
 -- record of so many bytes; and a fault is a sound one.
 pub record Carries {P : Type 0} (g : Ghosts P) (old new : P) (pages : Paging) (t : TableOf) (size : ℕ) (outcome : List Row × Reply) (result : Result Reply TreeFault) : Type 0 where
   pub given : IfOk result (Gives g new pages t outcome)
   pub few : SparesOthers g old new pages t size
-  pub likely : g.sealed old ≡ false → IfErr result (IsSound (number_in (sight g new pages)))
+  pub likely : g.sealed old ≡ false → IfErr result (IsSound g old new (number_in (sight g new pages)))
 
 -- a refusal puts nothing
 abbrev pub is_refused : Reply → Bool

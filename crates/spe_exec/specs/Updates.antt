@@ -25,4 +25,4 @@ pages_of_written usable table (r ∷ rs) = most_pages usable (record_length tabl
 pub record CarriesRows {P : Type 0} (g : Ghosts P) (old new : P) (pages : Paging) (t : TableOf) (allocs : ℕ) (outcome : List Row × Reply) (result : Result Reply TreeFault) : Type 0 where
   pub given : IfOk result (Gives g new pages t outcome)
   pub few : SparesRows g old new pages t allocs
-  pub likely : g.sealed old ≡ false → IfErr result (IsSound (number_in (sight g new pages)))
+  pub likely : g.sealed old ≡ false → IfErr result (IsSound g old new (number_in (sight g new pages)))

@@ -56,4 +56,4 @@ SparesStatement g old new catalog s = WhereServed g old new catalog (λ opening 
 -- a fault is a sound one
 abbrev pub IsLikelyWrite : {P : Type 0} (g : Ghosts P) (old new : P) (catalog : List Entry) (result : Result Reply TreeFault) → Type 0
 IsLikelyWrite g old new catalog result = WhereServed g old new catalog (λ opening pages db.
-    g.sealed old ≡ false → IfErr result (IsSound (number_in (sight g new pages))))
+    g.sealed old ≡ false → IfErr result (IsSound g old new (number_in (sight g new pages))))

@@ -58,4 +58,11 @@ impl Txs {
     {
         self.inner.as_slice()
     }
+
+    /// The transactions themselves.
+    pub fn into_vec(self) -> Vec<Tx>
+        ensures { result.items ≡ self }
+    {
+        self.inner
+    }
 }

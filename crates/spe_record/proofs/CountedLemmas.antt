@@ -106,7 +106,7 @@ judged_types types body few =
     rw (most_above (length body) (total types) few, most_below (length body) (total types) few, ← values_length types body)
     (judged_cases (has_reserved types) (nat_lt (length body) (total types)) (nat_lt (total types) (length body)) (are_texts (values_of types body)) (values_of types body))
 
-judged_found : (found : Option (List ℕ)) (body : List ℕ) (seen : Seen) → length body < 18446744073709551615 → Some seen ≡ option_map (seen_of body) found
+pub judged_found : (found : Option (List ℕ)) (body : List ℕ) (seen : Seen) → length body < 18446744073709551615 → Some seen ≡ option_map (seen_of body) found
     → judged seen (length body) ≡ count_of (record_of_types found body)
 judged_found None body seen few e = absurd cc
 judged_found (Some types) body seen few e = let same : seen ≡ seen_of body types = cc in rw same (judged_types types body few)

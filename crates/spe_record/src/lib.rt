@@ -6,6 +6,7 @@
 #![tactic(auto)]
 
 mod counted;
+mod fields;
 mod length;
 mod record;
 mod types;
@@ -13,6 +14,7 @@ mod values;
 mod written;
 
 pub use counted::value_count;
+pub use fields::{Field, Fields};
 pub use length::encoded_length;
 pub use record::decode;
 pub use spe_model::RecordFault;

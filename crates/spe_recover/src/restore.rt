@@ -107,29 +107,35 @@ fn restore_piece<D: Disk>(
     }
 }
 
-// Writes back the first records of the pages that a journal of `end` bytes holds, and answers how
-// many operations that took.
-fn restore_records<D: Disk>(
-    disk: &mut D,
+// A hot journal: its id, the nonce of its records, and how many bytes it has.
+#[derive(Clone, Copy)]
+struct HotJournal {
     id: u8,
     nonce: u32,
+    length: u64,
+}
+
+// Writes back the first records of the pages that a journal holds, and answers how many operations
+// that took.
+fn restore_records<D: Disk>(
+    disk: &mut D,
+    journal: HotJournal,
     page_size: u32,
     pages: u32,
-    end: u64,
     buf: &mut [u8],
     holders: &mut BTreeMap<u32, u8>,
 ) -> Result<u64, Failed>
     requires attached { D.attached disk.old ≡ true }
-    requires numbered { id < 16 }
+    requires numbered { journal.id < 16 }
     requires low { 512 ≤ page_size }
     requires high { page_size ≤ 65536 }
     requires page { length buf.old ≡ page_size + 8 }
-    requires end { IfTold (D.told disk.old) (λ content. end ≡ length (journal_of content id)) }
+    requires end { IfTold (D.told disk.old) (λ content. journal.length ≡ length (journal_of content journal.id)) }
     ensures restored { IfOk result (λ made. IfTold (D.told disk.old) (λ content.
-        Restored page_size pages (saved_in nonce page_size (drop 512 (journal_of content id))) (D.told disk.old) (D.told disk.new) holders.old holders.new made)) }
+        Restored page_size pages (saved_in journal.nonce page_size (drop 512 (journal_of content journal.id))) (D.told disk.old) (D.told disk.new) holders.old holders.new made)) }
     ensures few { IfOk result (λ made. made * 520 ≤ 2 ^ 64) }
     ensures stays { OnOk result (Stays (D.told disk.old) (D.told disk.new)) }
-    ensures stopped { OnErr result (MakesCut (D.told disk.old) (D.told disk.new) (λ content. restores page_size (is_due holders.old pages) (saved_in nonce page_size (drop 512 (journal_of content id))))) }
+    ensures stopped { OnErr result (MakesCut (D.told disk.old) (D.told disk.new) (λ content. restores page_size (is_due holders.old pages) (saved_in journal.nonce page_size (drop 512 (journal_of content journal.id))))) }
     ensures page { length buf.new ≡ page_size + 8 }
     ensures attached { D.attached disk.new ≡ true }
     ensures cause { HasEither (D.read_faults disk.old) (D.read_faults disk.new) (D.op_faults disk.old) (D.op_faults disk.new) result }
@@ -137,10 +143,10 @@ fn restore_records<D: Disk>(
     let size = u64::from(page_size) + 8;
     let mut made: u64 = 0;
     let mut at = HEAD_BYTES as u64;
-    let mut left = end.saturating_sub(HEAD_BYTES as u64);
+    let mut left = journal.length.saturating_sub(HEAD_BYTES as u64);
     while left >= size {
-        read_piece(disk, id, at, buf)?;
-        match restore_piece(disk, nonce, page_size, pages, buf, holders)? {
+        read_piece(disk, journal.id, at, buf)?;
+        match restore_piece(disk, journal.nonce, page_size, pages, buf, holders)? {
             Some(more) => made += more,
             None => return Ok(made),
         }
@@ -178,7 +184,9 @@ fn restore_journal<D: Disk>(
 {
     match head.kind {
         JournalKind::Hot { nonce } => {
-            restore_records(disk, id, nonce, page_size, pages, head.length, buf, holders)
+            let length = head.length;
+            let journal = HotJournal { id, nonce, length };
+            restore_records(disk, journal, page_size, pages, buf, holders)
         }
         JournalKind::Cold => Ok(0),
         JournalKind::OtherSize(_) => Ok(0),

@@ -1,4 +1,5 @@
 pub mod PassesLemmas
+pub mod StoredLemmas
 pub mod TextLemmas
 pub mod ReadLemmas
 pub mod ValueReads

@@ -1,8 +1,7 @@
 -- Texts with their quotes doubled, and the hexadecimal digits of bytes.
-use Rattle.std.proofs.Common.{◌≡◌, ℕ, zero, suc, ◌+◌, ◌<◌, ◌≤◌, ◌==◌, Bool, true, false, List, [], ◌∷◌, ◌++◌, ap, sym, ◌∙◌, arith, length, take, drop, refl}
-use Rattle.std.specs.Prelude.{slice_index, if◌then◌else◌}
+use Rattle.std.proofs.Common.{◌≡◌, ℕ, zero, suc, ◌<◌, ◌==◌, Bool, true, false, List, [], ◌∷◌, ◌++◌, ap, ◌∙◌, arith, length, take, drop, refl}
 use Rattle.std.proofs.lemmas.Bool.{eqb-true}
-use Rattle.memchr.specs.Find.{Nowhere, NoneBefore, Passes, is_byte}
+use Rattle.memchr.specs.Find.{Nowhere, Passes, is_byte}
 use Rattle.hex.specs.Hex.{encode_lower, encode_with}
 use Rattle.spe_render.specs.Values.{quoted, quoted_byte}
 

@@ -3,3 +3,4 @@ pub mod Replies
 pub mod Outcomes
 pub mod Passes
 pub mod Law
+pub mod Stored

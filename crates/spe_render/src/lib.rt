@@ -9,10 +9,14 @@ mod law;
 mod outcomes;
 mod printer;
 mod replies;
+mod stored;
 mod tables;
 mod transcripts;
 mod values;
 
 pub use law::text_tells_transcripts;
+pub use printer::Printer;
+pub use replies::put_count;
+pub use stored::put_stored;
 pub use tables::print_table;
 pub use transcripts::render;

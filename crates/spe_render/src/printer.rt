@@ -1,6 +1,6 @@
 //! Text on its way to a sink.
 
-ghost use Rattle.std.specs.Prelude.{◌≡◌, ◌∷◌, [], Some, decimal, IsTrue, IsFalse};
+ghost use Rattle.std.specs.Prelude.{◌≡◌, ◌∷◌, [], Some, decimal, not, is_some, IsTrue, IsFalse};
 ghost use Rattle.std.specs.Fmt.{signed_decimal};
 ghost use Rattle.spe_render.specs.Passes.{Ends, Passes, HasNone, KeepsText};
 
@@ -93,6 +93,13 @@ impl Printer {
             return;
         }
         self.put(sink, bytes);
+    }
+
+    /// Whether the sink failed.
+    pub fn has_failed(&self) -> bool
+        ensures { result ≡ not (is_some self.now) }
+    {
+        self.has_failed
     }
 
     /// Prints these bytes.

@@ -2,6 +2,7 @@
 
 ghost use Rattle.std.specs.Prelude.{◌≡◌, ◌∷◌, []};
 ghost use Rattle.hex.specs.Hex.{encode_lower};
+ghost use Rattle.spe_record.specs.Fields.{field_seen};
 ghost use Rattle.spe_render.specs.Passes.{Passes};
 ghost use Rattle.spe_render.specs.Values.{barred, barred_value, joined, quoted, row_text, rows_text, value_text};
 
@@ -9,6 +10,7 @@ use crate::printer::Printer;
 use memchr::memchr;
 use spe_disk::Sink;
 use spe_model::{Value, Values};
+use spe_record::Field;
 
 // Prints a text with each quote doubled.
 fn put_quoted<W: Sink>(out: &mut Printer, sink: &mut W, text: &[u8])
@@ -46,23 +48,23 @@ fn put_hex<W: Sink>(out: &mut Printer, sink: &mut W, bytes: &[u8])
     }
 }
 
-fn put_value<W: Sink>(out: &mut Printer, sink: &mut W, value: &Value)
-    ensures { Passes (W.taken sink.old) (W.taken sink.new) (W.faults sink.old) (W.faults sink.new) out.old out.new (value_text value.now) }
+fn put_field<W: Sink>(out: &mut Printer, sink: &mut W, field: Field<'_>)
+    ensures { Passes (W.taken sink.old) (W.taken sink.new) (W.faults sink.old) (W.faults sink.new) out.old out.new (value_text (field_seen field.entry)) }
 {
-    match value {
-        Value::Null => out.bytes(sink, b"NULL"),
-        Value::Int(number) => out.signed(sink, *number),
-        Value::Text(text) => {
+    match field {
+        Field::Null => out.bytes(sink, b"NULL"),
+        Field::Int(number) => out.signed(sink, number),
+        Field::Text(text) => {
             out.byte(sink, b'\'');
-            put_quoted(out, sink, text.as_slice());
+            put_quoted(out, sink, text);
             out.byte(sink, b'\'');
         }
-        Value::Blob(bytes) => {
+        Field::Blob(bytes) => {
             out.bytes(sink, b"x'");
-            put_hex(out, sink, bytes.as_slice());
+            put_hex(out, sink, bytes);
             out.byte(sink, b'\'');
         }
-        Value::Real8(bytes) => {
+        Field::Real8(bytes) => {
             out.bytes(sink, b"r'");
             put_hex(out, sink, bytes);
             out.byte(sink, b'\'');
@@ -70,12 +72,25 @@ fn put_value<W: Sink>(out: &mut Printer, sink: &mut W, value: &Value)
     }
 }
 
-// Prints a value behind a bar.
-fn put_barred_value<W: Sink>(out: &mut Printer, sink: &mut W, value: &Value)
-    ensures { Passes (W.taken sink.old) (W.taken sink.new) (W.faults sink.old) (W.faults sink.new) out.old out.new (barred_value value.now) }
+/// Prints a value behind a bar.
+pub fn put_barred_field<W: Sink>(out: &mut Printer, sink: &mut W, field: Field<'_>)
+    ensures { Passes (W.taken sink.old) (W.taken sink.new) (W.faults sink.old) (W.faults sink.new) out.old out.new (barred_value (field_seen field.entry)) }
 {
     out.byte(sink, b'|');
-    put_value(out, sink, value);
+    put_field(out, sink, field);
+}
+
+// A value, lent.
+fn field_of(value: &Value) -> Field<'_>
+    ensures { field_seen result ≡ value.now }
+{
+    match value {
+        Value::Null => Field::Null,
+        Value::Int(number) => Field::Int(*number),
+        Value::Text(text) => Field::Text(text.as_slice()),
+        Value::Blob(bytes) => Field::Blob(bytes.as_slice()),
+        Value::Real8(bytes) => Field::Real8(bytes),
+    }
 }
 
 // Prints values, each behind a bar.
@@ -84,7 +99,7 @@ fn put_barred<W: Sink>(out: &mut Printer, sink: &mut W, values: &[Value])
 {
     let mut left = values;
     while let [value, rest @ ..] = left {
-        put_barred_value(out, sink, value);
+        put_barred_field(out, sink, field_of(value));
         left = rest;
     }
 }
@@ -94,7 +109,7 @@ pub fn put_joined<W: Sink>(out: &mut Printer, sink: &mut W, values: &[Value])
     ensures { Passes (W.taken sink.old) (W.taken sink.new) (W.faults sink.old) (W.faults sink.new) out.old out.new (joined values.now) }
 {
     if let [value, rest @ ..] = values {
-        put_value(out, sink, value);
+        put_field(out, sink, field_of(value));
         put_barred(out, sink, rest);
     }
 }

@@ -9,7 +9,7 @@ use Rattle.spe_model.specs.declared.page.Kind.TheVariants.{TableLeaf, TableInter
 use Rattle.spe_model.specs.declared.page.Cell.{Cell}
 use Rattle.spe_model.specs.declared.page.PageFault.{PageFault}
 use Rattle.spe_model.specs.Chain.{AreLinks, IsChain, IsLink, link_after, link_room, links, next_page}
-use Rattle.spe_model.specs.Paging.{Paging, Agrees}
+use Rattle.spe_model.specs.Paging.{Paging}
 use Rattle.spe_model.specs.Standing.{all_pages, chain_pages, link_pages}
 use Rattle.spe_model.specs.Tree.{rank, rest_of, AreRows, AreUnder, IsNode, IsTree, fan, header_end, node_cells, node_right, tree_pages, tree_rows}
 use Rattle.spe_format.specs.View.{Shown}
@@ -68,7 +68,7 @@ some_is : (a b : Cell) → Some a ≡ Some b → a ≡ b
 some_is a b e = cc
 
 -- the chain of a row of a leaf
-row_over : (P : ℕ → Type 0) (usable : ℕ) (pages : Paging) (low high : ℕ) (cells : List Cell) (index : ℕ) (c : Cell) (at : ℕ) → AreRows usable pages low high cells → is_at cells index c
+pub row_over : (P : ℕ → Type 0) (usable : ℕ) (pages : Paging) (low high : ℕ) (cells : List Cell) (index : ℕ) (c : Cell) (at : ℕ) → AreRows usable pages low high cells → is_at cells index c
     → IsLink usable pages (rest_of c) c.chain at → All P (flat_map (chain_pages usable pages) cells) → P at
 row_over P usable pages low high [] index c at are is link all = absurd cc
 row_over P usable pages low high (x ∷ xs) zero c at are is link all =
@@ -78,7 +78,7 @@ row_over P usable pages low high (x ∷ xs) zero c at are is link all =
 row_over P usable pages low high (x ∷ xs) (suc index) c at are is link all =
     row_over P usable pages (rank x.key + 1) high xs index c at are.3 is link (all_behind P (chain_pages usable pages x) _ all)
 
-ok_is : (a b : Shown) (r : Result Shown PageFault) → r ≡ Ok a → r ≡ Ok b → a ≡ b
+pub ok_is : (a b : Shown) (r : Result Shown PageFault) → r ≡ Ok a → r ≡ Ok b → a ≡ b
 ok_is a b r e f = let both : Ok a ≡ Ok b = sym e ∙ f in cc
 
 -- what a legal page shows is one of its cells
@@ -157,7 +157,7 @@ pub between_inside : (P : ℕ → Type 0) (usable : ℕ) (pages : Paging) (from 
 between_inside P usable pages from to height low high page n tree all over =
     (tree_whole P usable pages height low high page over.leaf tree all (touched_in_tree usable pages from to height page over.leaf over.inside)).over over.row n over.shown over.kind over.link
 
-own_all : (xs : List ℕ) → All (Contains xs) xs
+pub own_all : (xs : List ℕ) → All (Contains xs) xs
 own_all xs k d within = (k, within, get_or_default xs k (get_or xs k d) d within)
 
 -- where the tree stands, a page that a walk between two rowids asks for is one of its pages or its chains

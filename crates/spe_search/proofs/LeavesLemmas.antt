@@ -1,14 +1,13 @@
 -- The leaves that rows are read from.
-use Rattle.std.proofs.Common.{◌≡◌, ◌≢◌, ◌⊎◌, inl, inr, ℕ, zero, suc, ℤ, ◌-◌, ◌<◌, List, [], ◌∷◌, ◌++◌, length, map, get_or, Option, Some, None, Result, Ok, Err, refl, sym, ap, subst, ◌∙◌, arith}
+use Rattle.std.proofs.Common.{◌≡◌, ◌≢◌, ◌⊎◌, inl, inr, ℕ, zero, suc, ℤ, ◌-◌, ◌<◌, List, [], ◌∷◌, ◌++◌, map, get_or, Option, Some, None, Result, Ok, Err, refl, sym, ap, subst, arith}
 use Rattle.std.specs.Prelude.{OnOk}
 use Rattle.std.specs.List.{Contains}
 use Rattle.std.proofs.lemmas.List.Elements.{Contains-append_cases}
 use Rattle.spe_model.specs.declared.page.Kind.{Kind}
 use Rattle.spe_model.specs.declared.page.Kind.TheVariants.{TableLeaf, TableInterior, IndexLeaf, IndexInterior}
 use Rattle.spe_model.specs.declared.page.Cell.{Cell}
-use Rattle.spe_model.specs.Chain.{IsChain, chain_bytes}
 use Rattle.spe_model.specs.Paging.{Paging, Agrees}
-use Rattle.spe_model.specs.Tree.{header_end, payload_of, rest_of}
+use Rattle.spe_model.specs.Tree.{header_end}
 use Rattle.spe_space.specs.Calls.{Reads, sight}
 use Rattle.spe_space.specs.Found.{ReadsChain}
 use Rattle.spe_space.specs.declared.pages.Pages.{Ghosts}
@@ -16,7 +15,7 @@ use Rattle.spe_space.specs.declared.fault.TreeFault.{TreeFault}
 use Rattle.spe_format.specs.View.{Shown, shown_at}
 use Rattle.spe_search.specs.declared.page.Found.{Found}
 use Rattle.spe_search.specs.declared.pairs.Pair.{Pair}
-use Rattle.spe_search.specs.Found.{IsReached, ShowsChild, used_of}
+use Rattle.spe_search.specs.Found.{IsReached, used_of}
 use Rattle.spe_search.specs.Leaves.{HasRead, HasTaken, HasVisited, IsRead, IsRowAt, IsRowOf, IsRowIn, Joins, TakesRows, TakesVisit}
 use Rattle.spe_search.specs.Pairs.{pair_seen}
 use Rattle.spe_search.specs.Range.{HasWalked}

@@ -12,3 +12,4 @@ pub mod TouchedLemmas
 pub mod LeavesLemmas
 pub mod InsideLemmas
 pub mod WholeLemmas
+pub mod TakingLemmas

@@ -17,7 +17,7 @@ use Rattle.spe_search.specs.Range.{PushesRow, PushesRows, RowDamage, RowsDamage,
 use Rattle.spe_search.proofs.PlaceLemmas.{cell_there, le_true, le_false}
 
 -- the cells from a place on begin with the one that is shown there
-at_front : (shown : List (Option Cell)) (cells : List Cell) (i : ℕ) (c : Cell) → shown ≡ map Some cells → Some c ≡ get_or shown i None → i < length shown → drop i cells ≡ c ∷ drop (i + 1) cells
+pub at_front : (shown : List (Option Cell)) (cells : List Cell) (i : ℕ) (c : Cell) → shown ≡ map Some cells → Some c ≡ get_or shown i None → i < length shown → drop i cells ≡ c ∷ drop (i + 1) cells
 at_front shown cells i c e is within =
     let all : i < length cells = omega (arith, within, ap length e, length-map cells Some) in
     drop_more cells i c all ∙ ap (λ x. x ∷ drop (i + 1) cells) (cell_there shown cells i c c e is within)
@@ -47,7 +47,7 @@ pub listed_last : (shown : List (Option Cell)) (right low high i : ℕ) (c : Cel
 listed_last shown right low high i c children listed is within from to cells e =
     ap (λ cs. children ++ cs) (sym (ap (λ cs. touched low high cs right) (at_front shown cells i c e is within) ∙ touched_last low high right c (drop (i + 1) cells) from to)) ∙ listed cells e
 
-drop_out : (cells : List Cell) (i : ℕ) → length cells ≤ i → drop i cells ≡ []
+pub drop_out : (cells : List Cell) (i : ℕ) → length cells ≤ i → drop i cells ≡ []
 drop_out [] zero h = refl
 drop_out [] (suc i) h = refl
 drop_out (c ∷ cs) zero h = absurd (omega (arith, h))
@@ -66,7 +66,7 @@ row_chain usable pages a b [] i d rows within = absurd (omega (arith, within))
 row_chain usable pages a b (c ∷ cs) zero d rows within = rows.2
 row_chain usable pages a b (c ∷ cs) (suc i) d rows within = row_chain usable pages (rank c.key + 1) b cs i d rows.3 (omega (arith, within))
 
-shown_chain : (usable : ℕ) (pages : Paging) (a b : ℕ) (shown : List (Option Cell)) (cells : List Cell) (i : ℕ) (c : Cell) → shown ≡ map Some cells → Some c ≡ get_or shown i None → i < length shown
+pub shown_chain : (usable : ℕ) (pages : Paging) (a b : ℕ) (shown : List (Option Cell)) (cells : List Cell) (i : ℕ) (c : Cell) → shown ≡ map Some cells → Some c ≡ get_or shown i None → i < length shown
     → AreRows usable pages a b cells → IsChain usable pages (rest_of c) c.chain
 shown_chain usable pages a b shown cells i c e is within rows =
     let all : i < length cells = omega (arith, within, ap length e, length-map cells Some) in

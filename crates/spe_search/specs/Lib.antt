@@ -5,3 +5,4 @@ pub mod Range
 pub mod Last
 pub mod Leaves
 pub mod Inside
+pub mod Taking

@@ -241,7 +241,7 @@ sound_by count (verdicts.Stands tables rows free) reply is none = refl
 sound_by count (verdicts.Broken page rule) reply is none = absurd (some_none (replies.Corrupt page) (sym (ap refusal_in is) ∙ none))
 
 -- the refusal names the broken page
-broken_by : (count : ℕ) (v : Verdict) (reply refusal : Reply) → reply ≡ reply_of_verdict count v → refusal_in reply ≡ Some refusal
+pub broken_by : (count : ℕ) (v : Verdict) (reply refusal : Reply) → reply ≡ reply_of_verdict count v → refusal_in reply ≡ Some refusal
     → (page : ℕ) × (rule : ℕ) × (v ≡ verdicts.Broken page rule) × (refusal ≡ replies.Corrupt page)
 broken_by count (verdicts.Stands tables rows free) reply refusal is some = absurd (none_some refusal (sym (ap refusal_in is) ∙ some))
 broken_by count (verdicts.Broken page rule) reply refusal is some =

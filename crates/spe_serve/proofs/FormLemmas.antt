@@ -62,7 +62,7 @@ few_lists : (n : ℕ) → 1 ≤ n → n ≤ 16 → (nat_le 1 n ≡ true) × (nat
 few_lists n some few = (le-leb 1 n some, le-leb n 16 few)
 
 -- where page 1 names a node page, it names some lists
-named_prepared : (usable count : ℕ) (pages : Paging) (db : Database) (stands : StandsFor usable count pages db) → names_node (pages 1) ≡ true → IsPrepared pages
+pub named_prepared : (usable count : ℕ) (pages : Paging) (db : Database) (stands : StandsFor usable count pages db) → names_node (pages 1) ≡ true → IsPrepared pages
 named_prepared usable count pages db stands named = go (subst (λ (b : Bool). Whether b (IsServer usable pages stands.lists stands.listed) (IsStock usable pages stands.lists stands.listed)) named stands.free)
   where
     go : IsServer usable pages stands.lists stands.listed → IsPrepared pages

@@ -24,3 +24,7 @@ pub mod StayLemmas
 pub mod WordLemmas
 pub mod MadeLemmas
 pub mod EndingLemmas
+pub mod SharedLemmas
+pub mod RunLemmas
+pub mod RunEndingLemmas
+pub mod ScriptLemmas

@@ -7,3 +7,7 @@ pub mod Own
 pub mod Behind
 pub mod Made
 pub mod Ending
+pub mod Asked
+pub mod Shared
+pub mod Run
+pub mod RunEnding

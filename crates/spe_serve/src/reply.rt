@@ -1,10 +1,12 @@
 //! What the program answers, in words.
 
 ghost use Rattle.std.specs.Prelude.{◌≡◌, IfOk, OnOk, ◌++◌, codes};
+ghost use Rattle.spe_serve.specs.Asked.{script_text, word_of};
 ghost use Rattle.spe_serve.specs.Reply.{number_of, closed_number};
 
 use itoa::Buffer;
 use spe_model::{Closed, HeaderFault, RecoverFault, TableRows};
+use spe_script::ScriptKind;
 use std::alloc::{AllocError, Global};
 
 /// An answer.
@@ -226,3 +228,51 @@ pub fn closed_line(alloc: Global, why: Closed) -> Result<Vec<u8>, AllocError>
 ghost use Rattle.std.specs.Fmt.{decimal};
 ghost use Rattle.spe_render.specs.Values.{line};
 ghost use Rattle.spe_serve.specs.Reply.{pair, reason, counts, prepared_counts, released_counts};
+
+/// The line that says that a client has no script.
+pub fn no_script_line(alloc: Global, client: u32) -> Result<Vec<u8>, AllocError>
+    ensures { IfOk result (λ v. v.items ≡ line (codes "refused no-script " ++ decimal client)) }
+{
+    let mut out = Vec::new(alloc);
+    out.extend_from_slice(b"refused no-script ")?;
+    put_number(&mut out, u64::from(client))?;
+    out.push(b'\n')?;
+    Ok(out)
+}
+
+// The word for what is wrong with a script.
+fn word_of(kind: ScriptKind) -> &'static [u8]
+    ensures { result.now ≡ word_of kind }
+{
+    match kind {
+        ScriptKind::NotUtf8 => b"not-utf8",
+        ScriptKind::Token => b"token",
+        ScriptKind::Expected => b"expected",
+        ScriptKind::Unsupported => b"unsupported",
+        ScriptKind::NumberRange => b"number-range",
+        ScriptKind::Nested => b"nested",
+        ScriptKind::NotOpen => b"not-open",
+        ScriptKind::TooLong => b"too-long",
+        ScriptKind::Memory => b"memory",
+    }
+}
+
+/// The line that says what is wrong with the script of a client, and on which line of it.
+pub fn bad_script_line(
+    alloc: Global,
+    client: u32,
+    at: u64,
+    kind: ScriptKind,
+) -> Result<Vec<u8>, AllocError>
+    ensures { IfOk result (λ v. v.items ≡ line (script_text client at kind)) }
+{
+    let mut out = Vec::new(alloc);
+    out.extend_from_slice(b"refused script ")?;
+    put_number(&mut out, u64::from(client))?;
+    out.extend_from_slice(b" line ")?;
+    put_number(&mut out, at)?;
+    out.push(b' ')?;
+    out.extend_from_slice(word_of(kind))?;
+    out.push(b'\n')?;
+    Ok(out)
+}

@@ -23,7 +23,7 @@ use std::alloc::Global;
 use std::marker::Brand;
 
 // What a command that writes refuses by the answer of `check`.
-fn refusal_in(reply: Reply) -> Option<Reply>
+pub(crate) fn refusal_in(reply: Reply) -> Option<Reply>
     ensures { result ≡ refusal_in reply }
 {
     match reply {

@@ -1,30 +1,26 @@
 -- A page of a pager is handed out: what the answer of the list says of the space.
-use Rattle.std.proofs.Common.{◌≡◌, ◌≢◌, ◌⊎◌, ◌+◌, ◌*◌, ◌<◌, ◌≤◌, ◌∙◌, ℕ, zero, suc, List, [], ◌∷◌, ◌++◌, Option, Some, None, refl, sym, ap, subst, arith, inl, inr, ⊎_elim, true, false, unwrap_or}
-use Rattle.std.specs.Prelude.{◌==◌, Bool, nat_lt, IsTrue}
-use Rattle.std.specs.List.{flat_map}
+use Rattle.std.proofs.Common.{◌≡◌, ◌≢◌, ◌⊎◌, ◌+◌, ◌*◌, ◌<◌, ◌≤◌, ◌∙◌, ℕ, zero, suc, List, Option, Some, None, refl, sym, ap, subst, arith, inl, inr, ⊎_elim, false}
+use Rattle.std.specs.Prelude.{◌==◌, Bool, IsTrue}
 use Rattle.std.proofs.lemmas.Bool.{eq-eqb}
-use Rattle.std.proofs.lemmas.List.Elements.{All-head}
 use Rattle.spe_model.specs.Big.{u32_at}
 use Rattle.spe_model.specs.FreeList.{AreTrunks, leaf_count, next_trunk}
 use Rattle.spe_model.specs.Paging.{Agrees, Paging}
-use Rattle.spe_model.specs.Standing.{FreeChain}
 use Rattle.spe_space.specs.declared.fault.SpaceFault.{SpaceFault}
 use Rattle.spe_space.specs.declared.fault.SpaceFault.TheVariants.{Busy, Read, Stopped, Full, PageOut, Corrupt, Memory}
 use Rattle.spe_space.specs.declared.pages.Pages.{Ghosts}
 use Rattle.spe_space.specs.Calls.{sight}
-use Rattle.spe_space.specs.Free.{DifferAt, IsGrown, IsSame, IsTaken}
+use Rattle.spe_space.specs.Free.{DifferAt, IsSame}
 use Rattle.spe_space.specs.Front.{number_in}
 use Rattle.spe_space.specs.Outcome.{Fits, FitsAlloc, FitsExtend, FitsGet, FitsPut, IsInside}
-use Rattle.spe_space.specs.Space.{Allots, FreeStays, HandsOut, HandsOutNew, IsForAlloc, IsNext, count_after}
+use Rattle.spe_space.specs.Space.{Allots, FreeStays, IsForAlloc, IsNext, count_after}
 use Rattle.spe_frame.specs.Times.{one_if, times}
-use Rattle.spe_freelist.specs.Lists.{Trunk, list_of, next_free, pages_of, taken}
+use Rattle.spe_freelist.specs.Lists.{Trunk, next_free, pages_of, taken}
 use Rattle.spe_freelist.specs.Place.{IsForTaking, LeavesLists, ListsStay, Place, TakesPage, trunks_of}
 use Rattle.spe_freelist.specs.Steps.{GrowsNot, HasNone, IsTrunkOf, MissesTrunk, TakesLeaf, TakesNew, TakesNot, TakesTrunk, Took}
 use Rattle.spe_freelist.specs.Trunk.{fifteen}
 use Rattle.spe_freelist.proofs.CaseLemmas.{whole_of}
 use Rattle.spe_freelist.proofs.LaidLemmas.{first_low}
-use Rattle.spe_freelist.proofs.PlaceLemmas.{first_listed}
-use Rattle.spe_freelist.proofs.RelistLemmas.{all_right, begins}
+use Rattle.spe_freelist.proofs.RelistLemmas.{begins}
 use Rattle.spe_session.specs.Lists.{AreInOrder, is_listed, next_in, next_or}
 use Rattle.spe_session.proofs.FreeLemmas.{Counts, counts, grown_counted, has_trunk, next_is, none_changed, one_taken, order_again, owns, owns_trunks, sixteen_grown, taken_counted}
 

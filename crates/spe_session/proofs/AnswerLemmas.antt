@@ -1,6 +1,6 @@
 -- What a pager answers when a page is taken from its list, or given to it.
-use Rattle.std.proofs.Common.{◌≡◌, ◌≢◌, ◌⊎◌, ◌+◌, ◌<◌, ◌≤◌, ◌∙◌, ℕ, List, Option, None, sym, ap, subst, arith, inl, inr, ⊎_elim, true, false, unwrap_or}
-use Rattle.std.specs.Prelude.{Bool, IsTrue, Result, Ok, Err}
+use Rattle.std.proofs.Common.{◌≡◌, ◌≢◌, ◌⊎◌, ◌+◌, ◌≤◌, ◌∙◌, ℕ, List, Option, None, sym, ap, subst, arith, inl, inr, ⊎_elim, true, false, unwrap_or}
+use Rattle.std.specs.Prelude.{Bool, IsTrue, Err}
 use Rattle.std.proofs.lemmas.Bool.{cases_lt}
 use Rattle.spe_model.specs.Big.{u32_at}
 use Rattle.spe_model.specs.Paging.{Agrees, Paging}
@@ -17,7 +17,7 @@ use Rattle.spe_space.specs.Space.{Allots, Each, FreeStays, FrontStays, IsForAllo
 use Rattle.spe_frame.specs.Times.{times}
 use Rattle.spe_frame.proofs.TimesLemmas.{same_or_not}
 use Rattle.spe_freelist.specs.Lists.{freed}
-use Rattle.spe_freelist.specs.Place.{IsForTaking, IsLikelyOfTree, IsSureOfTree, LeavesLists, ListsStay, MayBeGiven, Place, TakesPage, WhereListed, trunks_of}
+use Rattle.spe_freelist.specs.Place.{IsForTaking, IsLikelyOfTree, IsSureOfTree, LeavesLists, ListsStay, MayBeGiven, TakesPage, WhereListed, trunks_of}
 use Rattle.spe_freelist.specs.Steps.{GivesNot, HasNone, IsTrunkOf, OnFullOf, Took}
 use Rattle.spe_freelist.proofs.LaidLemmas.{first_low}
 use Rattle.spe_session.specs.Lists.{AreInOrder, is_listed, next_in}

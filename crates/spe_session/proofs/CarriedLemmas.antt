@@ -1,5 +1,5 @@
 -- The statements of a transaction, one more at a time.
-use Rattle.std.proofs.Common.{◌≡◌, ◌+◌, ◌-◌, ◌<◌, ◌≤◌, ◌∙◌, ℕ, List, [], ◌∷◌, ◌++◌, length, take, drop, All, None, Ok, true, refl, sym, ap, subst, arith, append_assoc}
+use Rattle.std.proofs.Common.{◌≡◌, ◌+◌, ◌-◌, ◌<◌, ◌≤◌, ◌∙◌, List, [], ◌∷◌, ◌++◌, length, take, drop, All, None, Ok, true, refl, sym, ap, subst, arith, append_assoc}
 use Rattle.std.proofs.lemmas.List.{length-append, take_all}
 use Rattle.std.proofs.lemmas.List.Elements.{All-tail}
 use Rattle.std.specs.Prelude.{slice_index_or}
@@ -7,12 +7,10 @@ use Rattle.spe_model.specs.declared.catalog.Entry.{Entry}
 use Rattle.spe_model.specs.declared.reply.Reply.{Reply}
 use Rattle.spe_model.specs.declared.statement.Statement.{Statement}
 use Rattle.spe_model.specs.declared.transaction.TxKind.{TxKind}
-use Rattle.spe_model.specs.Justified.{Opening}
-use Rattle.spe_model.specs.Paging.{Agrees, Paging}
 use Rattle.spe_space.specs.declared.pages.Pages.{Ghosts}
 use Rattle.spe_space.specs.Calls.{Keeps}
 use Rattle.spe_served.specs.Lists.{ListsStand}
-use Rattle.spe_exec.specs.Justifying.{JustifiedIn, JustifiedRun, asked_nothing}
+use Rattle.spe_exec.specs.Justifying.{JustifiedIn, JustifiedRun}
 use Rattle.spe_exec.specs.Writes.{DoesMeaning, is_built}
 use Rattle.spe_session.specs.Carried.{AreLeft, IsFront, WhereBegun}
 

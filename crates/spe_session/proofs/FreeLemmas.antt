@@ -1,26 +1,24 @@
 -- Free pages that are handed out and taken back: what becomes of the lists, and of which pages are free.
-use Rattle.std.proofs.Common.{◌≡◌, ◌≢◌, ◌⊎◌, ◌+◌, ◌*◌, ◌<◌, ◌≤◌, ◌∙◌, ℕ, zero, suc, List, [], ◌∷◌, ◌++◌, All, Option, Some, None, refl, sym, ap, subst, arith, inl, inr, ⊎_elim, true, false}
-use Rattle.std.specs.Prelude.{◌==◌, ◌||◌, nat_lt, IsTrue}
+use Rattle.std.proofs.Common.{◌≡◌, ◌≢◌, ◌+◌, ◌*◌, ◌<◌, ◌≤◌, ◌∙◌, ℕ, zero, suc, List, [], ◌∷◌, ◌++◌, All, Some, None, refl, sym, ap, subst, arith, inl, inr, ⊎_elim, true}
+use Rattle.std.specs.Prelude.{◌==◌, nat_lt, IsTrue}
 use Rattle.std.specs.List.{flat_map}
 use Rattle.std.proofs.lemmas.Bool.{cases_lt, eq-eqb, lt-ltb, ltb-true, ne_eqb}
 use Rattle.std.proofs.lemmas.List.Concat.{flat_map-append}
 use Rattle.std.proofs.lemmas.List.Elements.{All-head, All-tail}
 use Rattle.spe_model.specs.Big.{u32_at}
-use Rattle.spe_model.specs.FreeList.{AreTrunks, leaf_count, leaves_of, next_trunk}
-use Rattle.spe_model.specs.Journal.{numbers_from}
+use Rattle.spe_model.specs.FreeList.{AreTrunks, leaf_count, next_trunk}
 use Rattle.spe_model.specs.Paging.{Paging}
 use Rattle.spe_model.specs.Standing.{FreeChain, chain_of_free}
 use Rattle.spe_model.specs.Walk.{is_met}
 use Rattle.spe_space.specs.declared.pages.Pages.{Ghosts}
 use Rattle.spe_space.specs.Calls.{sight}
-use Rattle.spe_space.specs.Free.{IsFreed, IsGrown, IsLaterPage, IsNew, IsSame, IsTaken}
+use Rattle.spe_space.specs.Free.{IsFreed, IsGrown, IsLaterPage, IsSame, IsTaken}
 use Rattle.spe_space.specs.Front.{number_in}
 use Rattle.spe_frame.specs.Times.{one_if, times}
 use Rattle.spe_frame.proofs.TimesLemmas.{here, holds_from_all, same_or_not, single_from_distinct, there, times-append}
 use Rattle.spe_freelist.specs.Lists.{Trunk, freed, list_of, next_free, next_of, pages_of, taken, trunks_from}
 use Rattle.spe_freelist.specs.Place.{AreLists, LeavesLists, Place, trunks_of}
 use Rattle.spe_freelist.specs.Trunk.{fifteen, leaves_at}
-use Rattle.spe_freelist.proofs.CaseLemmas.{whole_of}
 use Rattle.spe_freelist.proofs.RelistLemmas.{all_left as all_front, all_right as all_back}
 use Rattle.spe_freelist.proofs.ListLemmas.{next_more, pages_are, times_freed, times_left, times_trunk}
 use Rattle.spe_freelist.proofs.TakeLemmas.{fifteen_has, fifteen_once}

@@ -13,5 +13,6 @@ pub mod AnswerLemmas
 pub mod ListLemmas
 pub mod StartLemmas
 pub mod CarriedLemmas
+pub mod CauseLemmas
 pub mod TransactionLemmas
 pub mod RunLemmas

@@ -1,13 +1,12 @@
 -- The free pages of a pager are those of the lists that page 1 names, and served pages have such lists.
-use Rattle.std.proofs.Common.{inl, inr, ◌≡◌, ◌≢◌, ◌⊎◌, ◌+◌, ◌<◌, ◌≤◌, ◌∙◌, ℕ, zero, suc, List, [], ◌∷◌, ◌++◌, length, take, map, All, Ok, refl, sym, ap, subst, arith, ⊎_elim, true, false}
-use Rattle.std.specs.Prelude.{◌==◌, Bool, IsOk, IsTrue, slice_index_or}
-use Rattle.std.specs.List.{Contains, flat_map}
+use Rattle.std.proofs.Common.{inl, inr, ◌≡◌, ◌≢◌, ◌⊎◌, ◌+◌, ◌<◌, ◌≤◌, ◌∙◌, ℕ, zero, suc, List, [], ◌∷◌, ◌++◌, take, map, All, refl, sym, ap, subst, arith, ⊎_elim, true}
+use Rattle.std.specs.Prelude.{◌==◌, Bool, IsOk, IsTrue}
+use Rattle.std.specs.List.{flat_map}
 use Rattle.std.proofs.lemmas.List.Elements.{All-head, All-tail}
 use Rattle.std.proofs.lemmas.Bool.{eqb-true, or_cases}
 use Rattle.spe_model.specs.Big.{u32_at}
 use Rattle.spe_model.specs.Database.{Database}
 use Rattle.spe_model.specs.FreeList.{first_trunks, names_node}
-use Rattle.spe_model.specs.Justified.{Opening, ServedSince}
 use Rattle.spe_model.specs.Header.{header_of}
 use Rattle.spe_model.specs.Paging.{Paging}
 use Rattle.spe_model.specs.Served.{Served, usable_in}

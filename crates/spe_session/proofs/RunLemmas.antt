@@ -1,5 +1,5 @@
 -- A transaction that did not begin, and one that did.
-use Rattle.std.proofs.Common.{◌≡◌, ◌∙◌, ℕ, List, [], take, Option, None, Some, refl, sym, ap, subst}
+use Rattle.std.proofs.Common.{◌≡◌, ℕ, List, [], Option, None, Some, refl, sym, subst}
 use Rattle.std.specs.Prelude.{IfSome}
 use Rattle.std.specs.Option.{option_map}
 use Rattle.spe_model.specs.declared.reply.Reply.{Reply}
@@ -25,7 +25,7 @@ unbegun_rests old new Sixteen is rests = subst IsResting (sym is.0) rests
 unbegun_rests old new Memory is rests = subst IsResting (sym is.0) rests
 
 -- what is so of each database is so where the pages were served
-was_any : (opened : Opened) (What : Database → Type 0) → ((db : Database) → What db) → WhereWasServed opened What
+pub was_any : (opened : Opened) (What : Database → Type 0) → ((db : Database) → What db) → WhereWasServed opened What
 was_any opened What all = go opened.first
   where
     go : (o : Option Content) → IfSome o (λ first. (db : Database) → AreServed opened.read opened.pages db → What db)
@@ -40,15 +40,15 @@ none_right opened entries body replies outcome number cause none is =
     (λ db. subst (λ (o : Outcome). AreRight entries db body replies o) (sym is) (subst (λ (rs : List Reply). AreRight entries db body rs (Fault number cause)) (sym none) (0, refl)))
 
 -- what is so where the disk tells its files is so where it told them at the opening
-pub run_right : (opened : Opened) (entries entries' : List Entry) (told told' : Option History) (body : Tx) (replies : List Reply) (outcome : Outcome) → told' ≡ told → entries' ≡ entries
-    → option_map (λ (h : History). h.first) told ≡ opened.first → IfTold told' (λ _. (db : Database) → AreServed opened.read opened.pages db → AreRight entries' db body replies outcome)
-    → WhereWasServed opened (λ db. AreRight entries db body replies outcome)
-run_right opened entries entries' told told' body replies outcome same alike first right =
-    subst (λ (o : Option Content). IfSome o (λ x. (db : Database) → AreServed opened.read opened.pages db → AreRight entries db body replies outcome)) first
-    (go told (subst (λ (t : Option History). IfTold t (λ _. (db : Database) → AreServed opened.read opened.pages db → AreRight entries db body replies outcome)) same
-    (subst (λ (es : List Entry). IfTold told' (λ _. (db : Database) → AreServed opened.read opened.pages db → AreRight es db body replies outcome)) alike right)))
+pub run_where : (opened : Opened) (entries entries' : List Entry) (told told' : Option History) (What : List Entry → Database → Type 0) → told' ≡ told → entries' ≡ entries
+    → option_map (λ (h : History). h.first) told ≡ opened.first → IfTold told' (λ _. (db : Database) → AreServed opened.read opened.pages db → What entries' db)
+    → WhereWasServed opened (What entries)
+run_where opened entries entries' told told' What same alike first right =
+    subst (λ (o : Option Content). IfSome o (λ x. (db : Database) → AreServed opened.read opened.pages db → What entries db)) first
+    (go told (subst (λ (t : Option History). IfTold t (λ _. (db : Database) → AreServed opened.read opened.pages db → What entries db)) same
+    (subst (λ (es : List Entry). IfTold told' (λ _. (db : Database) → AreServed opened.read opened.pages db → What es db)) alike right)))
   where
-    go : (t : Option History) → IfTold t (λ _. (db : Database) → AreServed opened.read opened.pages db → AreRight entries db body replies outcome)
-        → IfSome (option_map (λ (h : History). h.first) t) (λ x. (db : Database) → AreServed opened.read opened.pages db → AreRight entries db body replies outcome)
+    go : (t : Option History) → IfTold t (λ _. (db : Database) → AreServed opened.read opened.pages db → What entries db)
+        → IfSome (option_map (λ (h : History). h.first) t) (λ x. (db : Database) → AreServed opened.read opened.pages db → What entries db)
     go None r = tt
     go (Some h) r = r

@@ -1,5 +1,5 @@
 -- Where nothing is asked yet: pages that are served show themselves as served in a pager that knows page 1.
-use Rattle.std.proofs.Common.{inl, inr, ◌≡◌, ◌≢◌, ◌+◌, ◌<◌, ◌≤◌, ◌∙◌, ℕ, List, length, take, None, Option, Some, Ok, Result, refl, sym, ap, subst, arith, ⊎_elim, true, false, unwrap_or}
+use Rattle.std.proofs.Common.{inl, inr, ◌≡◌, ◌<◌, ◌≤◌, ◌∙◌, ℕ, List, length, take, None, Option, Some, Ok, refl, sym, ap, subst, arith, ⊎_elim, true, false, unwrap_or}
 use Rattle.std.specs.Prelude.{IsTrue, Bool, ◌∷◌, ◌++◌}
 use Rattle.std.specs.List.{find, flat_map}
 use Rattle.std.proofs.Math.Path.{fun_ext}
@@ -7,11 +7,9 @@ use Rattle.spe_model.specs.declared.header.Header.{Header}
 use Rattle.spe_model.specs.declared.header.HeaderFault.{HeaderFault}
 use Rattle.spe_model.specs.declared.transaction.TxKind.{TxKind}
 use Rattle.spe_model.specs.Big.{u32_at}
-use Rattle.spe_model.specs.Database.{Database}
-use Rattle.spe_model.specs.FreeList.{first_trunks}
 use Rattle.spe_model.specs.Header.{faults, fields, has_fault, header_of, unless}
 use Rattle.spe_model.specs.Justified.{Opening, ServedSince}
-use Rattle.spe_model.specs.Paging.{Agrees, PageMap, Paging, lay}
+use Rattle.spe_model.specs.Paging.{Agrees, Paging}
 use Rattle.spe_model.specs.Served.{usable_in}
 use Rattle.spe_model.specs.Standing.{FreeChain, IsOneOf, chain_of_free}
 use Rattle.spe_model.specs.Verdict.{free_pages}
@@ -21,11 +19,9 @@ use Rattle.spe_space.specs.Calls.{sight}
 use Rattle.spe_space.specs.Front.{list_in, number_in}
 use Rattle.spe_space.proofs.FrontLemmas.{u32_at-take}
 use Rattle.spe_frame.specs.Framed.{ListsAreFree}
-use Rattle.spe_frame.specs.Held.{IsReady}
 use Rattle.spe_frame.specs.Times.{times}
-use Rattle.spe_frame.proofs.TimesLemmas.{here, holds_from_all, same_or_not, single_from_distinct}
-use Rattle.spe_served.specs.Change.{IsServed}
-use Rattle.spe_served.specs.Lists.{HasLists, ListsStand}
+use Rattle.spe_frame.proofs.TimesLemmas.{here, holds_from_all, single_from_distinct}
+use Rattle.spe_served.specs.Lists.{ListsStand}
 use Rattle.spe_exec.specs.Justifying.{JustifiedIn, asked_nothing}
 use Rattle.spe_session.specs.Front.{IsFrontOf}
 use Rattle.spe_session.specs.Lists.{AreInOrder, is_listed}

@@ -1,5 +1,5 @@
 -- The store that a pager stands on, in which no transaction has written a page yet.
-use Rattle.std.specs.Prelude.{◌≡◌, ℕ, List, Option, Some, None, Bool, true, false}
+use Rattle.std.specs.Prelude.{◌≡◌, ◌+◌, ◌*◌, ◌^◌, ◌<◌, ℕ, List, Option, Some, None, Bool, true, false}
 use Rattle.std.specs.Option.{option_map}
 use Rattle.spe_model.specs.Paging.{Agrees, Given, Paging}
 use Rattle.spe_model.specs.Settled.{page_in}
@@ -42,13 +42,19 @@ admits_own _ = true
 abbrev pub IsAdmitted : Option SpaceFault → Type 0
 IsAdmitted kept = (fault : SpaceFault) → kept ≡ Some fault → admits_own fault ≡ true
 
--- what a transaction began on: the files and the commits, how many pages there were, its id, and the first trunk of its list
+-- a file of so many pages has no room for sixteen more
+abbrev pub HasNoRoom : (pages size : ℕ) → Type 0
+HasNoRoom pages size = 2 ^ 30 < (pages + 16) * size
+
+-- What a transaction began on: the files and the commits, how many pages there were, its id, the first trunk of its list, and
+-- how many readings had failed.
 pub record Begun : Type 0 where
   pub told : Option History
   pub entries : List Entry
   pub count : ℕ
   pub id : ℕ
   pub first : ℕ
+  pub reads : ℕ
 
 -- nothing was done to the store but a reading
 pub record StaysBelow (opened : Opened) (old new : Store) : Type 0 where

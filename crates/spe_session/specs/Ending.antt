@@ -14,6 +14,8 @@ use Rattle.spe_store.specs.Served.{AreServed, Entry}
 use Rattle.spe_store.specs.Event.{broken_in, entries_in, open_in}
 use Rattle.spe_store.specs.Store.{Store}
 use Rattle.spe_session.specs.declared.fault.EndFailed.{EndFailed}
+use Rattle.spe_session.specs.declared.fault.EndFault.{EndFault}
+use Rattle.spe_session.specs.declared.fault.EndFault.TheVariants.{Stopped}
 use Rattle.spe_session.specs.Alone.{IsAlone, IsIdle}
 
 -- where the disk told what its files held at the opening, their pages were served for some database
@@ -62,6 +64,11 @@ pub record AddsEntry (old new : List Entry) (session : ℕ) (log : Log) (wrote :
 abbrev pub IsBrokenBy : (session : ℕ) → Log → Option Entry → Type 0
 IsBrokenBy session log None = Unit {0}
 IsBrokenBy session log (Some e) = (e.log ≡ log) × (e.session ≡ session)
+
+-- a cut that failed is that of the operation that is named
+abbrev pub NamesCut : Option Entry → EndFault → Type 0
+NamesCut None why = Unit {0}
+NamesCut (Some e) why = why ≡ Stopped e.ops
 
 -- the greatest number of commits that a session was told, once it has its answer
 abbrev pub told_after : ℕ → Result ℕ EndFailed → ℕ

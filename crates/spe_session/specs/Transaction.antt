@@ -1,5 +1,5 @@
 -- A transaction over a store, from its begin to its end.
-use Rattle.std.specs.Prelude.{◌≡◌, ◌⊎◌, ◌+◌, ◌*◌, ◌^◌, ◌<◌, ◌≤◌, ℕ, true, List, [], ◌∷◌, ◌++◌, length, take, Option, None, Some, IfSome, Result, Ok, Err}
+use Rattle.std.specs.Prelude.{◌≡◌, ◌⊎◌, ◌*◌, ◌^◌, ◌<◌, ◌≤◌, ℕ, true, List, [], ◌∷◌, ◌++◌, length, take, Option, None, Some, IfSome, Result, Ok, Err}
 use Rattle.spe_model.specs.declared.reply.Reply.{Reply}
 use Rattle.spe_model.specs.declared.transaction.End.TheVariants as ends
 use Rattle.spe_model.specs.declared.transaction.Tx.{Tx}
@@ -13,14 +13,14 @@ use Rattle.spe_model.specs.Meaning.{replies_of}
 use Rattle.spe_model.specs.Paging.{Given}
 use Rattle.spe_space.specs.declared.fault.TreeFault.{TreeFault}
 use Rattle.spe_space.specs.declared.fault.TreeFault.TheVariants.{Space, Corrupt}
+use Rattle.spe_space.specs.declared.fault.SpaceFault.{SpaceFault}
 use Rattle.spe_space.specs.declared.fault.SpaceFault.TheVariants as faults
 use Rattle.spe_space.specs.Outcome.{OnFull}
-use Rattle.spe_store.specs.declared.log.Log.{Log}
 use Rattle.spe_store.specs.declared.session.SessionSeat.{SessionSeat}
 use Rattle.spe_store.specs.declared.stop.BeginFault.{BeginFault}
 use Rattle.spe_store.specs.declared.stop.BeginFault.TheVariants as begins
 use Rattle.spe_store.specs.Desk.{Desk}
-use Rattle.spe_store.specs.Event.{entries_in}
+use Rattle.spe_store.specs.Event.{broken_in, entries_in}
 use Rattle.spe_store.specs.Opened.{Opened}
 use Rattle.spe_store.specs.Served.{AreServed, Entry, Says, database_after, pages_of}
 use Rattle.spe_store.specs.Store.{AreSeen, Store}
@@ -28,7 +28,7 @@ use Rattle.spe_session.specs.declared.fault.EndFailed.{EndFailed}
 use Rattle.spe_session.specs.declared.fault.EndFault.{EndFault}
 use Rattle.spe_session.specs.declared.fault.EndFault.TheVariants as ends_by
 use Rattle.spe_session.specs.Alone.{IsIdle}
-use Rattle.spe_session.specs.Below.{admits_own}
+use Rattle.spe_session.specs.Below.{HasNoRoom, admits_own}
 
 -- a store with no transaction at work, unless it has stopped
 abbrev pub IsResting : Store → Type 0
@@ -94,6 +94,41 @@ abbrev pub HasReason : (new : Desk) → Outcome → Type 0
 HasReason new (Fault number cause) = IsCause new cause
 HasReason new _ = Unit {0}
 
+-- where a transaction ends with a failed reading, the count of those rose from the one to the other
+abbrev pub ReadsFailed : (before now : ℕ) → Outcome → Type 0
+ReadsFailed before now (Fault number causes.Read) = Rose before now
+ReadsFailed before now _ = Unit {0}
+
+-- where it ends with a full file, that has no room for sixteen pages more of this size
+abbrev pub IsFilled : (size : ℕ) → Outcome → Type 0
+IsFilled size (Full number pages) = HasNoRoom pages size
+IsFilled size _ = Unit {0}
+
+-- A commit whose cut failed is that of this transaction, which ends with the operation that its entry counts.
+abbrev pub BreaksAs : (client tx : ℕ) (body : Tx) (replies : List Reply) → Outcome → Option Entry → Type 0
+BreaksAs client tx body replies outcome None = Unit {0}
+BreaksAs client tx body replies outcome (Some e) =
+    (e.log ≡ record { client = client; tx = tx; body = body; replies = replies }) × ((number : ℕ) × (outcome ≡ Fault number (causes.Stopped e.ops)))
+
+-- The cut of this transaction's commit failed, so that it may have been made all the same. The transaction ends with this
+-- operation, which the entry counts as made.
+pub record HasCutFailed (new : Store) (client tx : ℕ) (body : Tx) (replies : List Reply) (outcome : Outcome) : Type 0 where
+  pub entry : Entry
+  pub broken : broken_in new.events ≡ Some entry
+  pub log : entry.log ≡ record { client = client; tx = tx; body = body; replies = replies }
+  pub number : ℕ
+  pub named : outcome ≡ Fault number (causes.Stopped entry.ops)
+
+-- what is known of a commit whose cut failed is as before, or it is that of this transaction
+abbrev pub KeepsBroken : (old new : Store) (client tx : ℕ) (body : Tx) (replies : List Reply) → Outcome → Type 0
+KeepsBroken old new client tx body replies outcome = (broken_in new.events ≡ broken_in old.events) ⊎ HasCutFailed new client tx body replies outcome
+
+-- where a transaction ends with an operation that failed, its replies are those to all its statements, on the database that
+-- the commits leave
+abbrev pub StopsWhole : List Entry → Database → Tx → List Reply → Outcome → Type 0
+StopsWhole entries db body replies (Fault number (causes.Stopped op)) = replies ≡ replies_of (database_after db entries) body
+StopsWhole entries db body replies _ = Unit {0}
+
 -- What was told to a session: the number of its newest outcome, which is never lower than what it was told before. It is at
 -- most the number of commits, and a commit's is higher.
 pub record IsToldBy (entries : List Entry) (before now : SessionSeat) (outcome : Outcome) : Type 0 where
@@ -134,6 +169,12 @@ outcome_of number (Corrupt page) = Fault number (causes.Corrupt page)
 abbrev pub IsOwnFault : TreeFault → Type 0
 IsOwnFault (Space f) = admits_own f ≡ true
 IsOwnFault (Corrupt page) = Unit {0}
+
+-- a fault of the space, Memory apart, is the one that it keeps
+abbrev pub IsKept : Option SpaceFault → TreeFault → Type 0
+IsKept kept (Space faults.Memory) = Unit {0}
+IsKept kept (Space f) = kept ≡ Some f
+IsKept kept (Corrupt page) = Unit {0}
 
 -- the outcome of a transaction that was to commit and did not
 abbrev pub failed_outcome : (number : ℕ) → EndFault → Outcome

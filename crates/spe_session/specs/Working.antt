@@ -28,6 +28,16 @@ IsFault opened s Read = (s.desk.stopped ≡ None) × Rose opened.reads s.desk.re
 IsFault opened s (Stopped op) = s.desk.stopped ≡ Some op
 IsFault opened s Memory = s.desk.stopped ≡ None
 
+-- where a reading failed, the count of those rose from the one to the other
+abbrev pub ReadsFrom : (before now : ℕ) → EndFault → Type 0
+ReadsFrom before now Read = Rose before now
+ReadsFrom before now _ = Unit {0}
+
+-- an operation failed, and nothing else did
+abbrev pub IsStop : EndFault → Type 0
+IsStop (Stopped op) = Unit {0}
+IsStop _ = ⊥
+
 -- one transaction went on, and neither committed nor read
 pub record Carries (id : ℕ) (old new : List Event) : Type 0 where
   pub alone : IsAlone old id → IsAlone new id

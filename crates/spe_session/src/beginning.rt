@@ -6,7 +6,8 @@ use std::marker::Brand;
 /// said by the type.
 ///
 /// To proofs it names what had been done to the files, where the disk tells that; the commits that there
-/// were, and how many pages; the transaction's id, and the first trunk of its free list.
+/// were, and how many pages; the transaction's id, and the first trunk of its free list; and how many
+/// readings had failed.
 pub trait Beginning {
     ghost use Rattle.spe_session.specs.Below.{Begun};
 
@@ -22,5 +23,6 @@ impl Beginning for Brand {
       count = 0;
       id = 0;
       first = 0;
+      reads = 0;
     } };
 }

@@ -11,8 +11,8 @@ ghost use Rattle.spe_store.specs.Event.{broken_in, entries_in, lives_in, open_in
 ghost use Rattle.spe_store.specs.Served.{asked_of};
 ghost use Rattle.spe_store.specs.Store.{IsOf};
 ghost use Rattle.spe_session.specs.Alone.{IsAlone, IsIdle};
-ghost use Rattle.spe_session.specs.Ending.{AddsEntry, IsBrokenBy, IsLeft, WasServed, count_after, told_after};
-ghost use Rattle.spe_session.specs.Working.{IsFault};
+ghost use Rattle.spe_session.specs.Ending.{AddsEntry, IsBrokenBy, IsLeft, NamesCut, WasServed, count_after, told_after};
+ghost use Rattle.spe_session.specs.Working.{IsFault, IsStop, ReadsFrom};
 
 use crate::beginning::Beginning;
 use crate::ending::put_all;
@@ -80,6 +80,8 @@ fn end<D: Disk, N: Opening>(
     ensures going { OnOk result.answer (result.store.desk.stopped ≡ None) }
     ensures idle { result.store.desk.stopped ≡ None → IsIdle result.store.events }
     ensures broken { OnErr result.answer (IsBrokenBy session.old.number log.now (broken_in result.store.events)) }
+    ensures names { IfErr result.answer (λ failed. NamesCut (broken_in result.store.events) failed.why) }
+    ensures stop { IfErr result.answer (λ failed. IsStop failed.why) }
     ensures session { session.new ≡ record session.old { told = told_after session.old.told result.answer } }
     ensures sized { result.store.page_size ≡ store.page_size }
 {
@@ -122,6 +124,8 @@ impl<D: Disk, N: Opening, K: Beginning> Pager<D, N, K> {
         ensures going { OnOk result.answer (result.store.desk.stopped ≡ None) }
         ensures idle { result.store.desk.stopped ≡ None → IsIdle result.store.events }
         ensures broken { OnErr result.answer (IsBrokenBy session.old.number log.now (broken_in result.store.events)) }
+        ensures names { IfErr result.answer (λ failed. NamesCut (broken_in result.store.events) failed.why) }
+        ensures reads { IfErr result.answer (λ failed. ReadsFrom K.begun.reads result.store.desk.reads failed.why) }
         ensures session { session.new ≡ record session.old { told = told_after session.old.told result.answer } }
         ensures sized { result.store.page_size ≡ ⟦<Pager<D, N, K> as Pages>⟧.size self }
     {

@@ -6,7 +6,7 @@ ghost use Rattle.spe_store.specs.Event.{broken_in, open_in, seen_in, written_in}
 ghost use Rattle.spe_session.specs.Alone.{IsAlone, IsReading};
 ghost use Rattle.spe_session.specs.Ending.{FailsEnd, WasServed};
 ghost use Rattle.spe_session.specs.Pages.{AreSized, AreUpTo, are_numbered, bytes_at, laid_in};
-ghost use Rattle.spe_session.specs.Working.{AreSaved, BeginsSo, Carries, IsFault, IsWrittenTo, Writes};
+ghost use Rattle.spe_session.specs.Working.{AreSaved, BeginsSo, Carries, IsFault, IsWrittenTo, ReadsFrom, Writes};
 
 use crate::fault::{EndFault, end_fault};
 use crate::page_set::PageSet;
@@ -28,6 +28,7 @@ fn drop_saved<D: Disk, N: Opening>(
     requires fault { IsFault N.opened store.old fault }
     requires unbroken { broken_in store.old.events ≡ None }
     ensures fault { IsFault N.opened store.new result }
+    ensures reads { (before : ℕ) → ReadsFrom before store.old.desk.reads fault → ReadsFrom before store.new.desk.reads result }
     ensures fails { FailsEnd pass.old.id store.old store.new }
     ensures unbroken { broken_in store.new.events ≡ None }
     ensures tied { IsTied store.new pass.new }
@@ -60,6 +61,7 @@ fn save_all<D: Disk, N: Opening>(
     ensures carries { OnOk result (Carries pass.old.id store.old.events store.new.events) }
     ensures going { OnOk result (store.new.desk.stopped ≡ None) }
     ensures fault { IfErr result (IsFault N.opened store.new) }
+    ensures reads { IfErr result (ReadsFrom store.old.desk.reads store.new.desk.reads) }
     ensures fails { OnErr result (FailsEnd pass.old.id store.old store.new) }
     ensures unbroken { broken_in store.new.events ≡ None }
     ensures tied { IsTied store.new pass.new }
@@ -142,6 +144,7 @@ pub(crate) fn put_all<D: Disk, N: Opening>(
     ensures carries { OnOk result (Carries pass.old.id store.old.events store.new.events) }
     ensures going { OnOk result (store.new.desk.stopped ≡ None) }
     ensures fault { IfErr result (IsFault N.opened store.new) }
+    ensures reads { IfErr result (ReadsFrom store.old.desk.reads store.new.desk.reads) }
     ensures fails { OnErr result (FailsEnd pass.old.id store.old store.new) }
     ensures unbroken { broken_in store.new.events ≡ None }
     ensures tied { IsTied store.new pass.new }

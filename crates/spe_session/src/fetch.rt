@@ -1,6 +1,6 @@
 //! A page is read from a store in which no transaction has written a page.
 
-ghost use Rattle.std.specs.Prelude.{◌≡◌, [], None, length, IfErr, IfSome, OnErr, OnOk};
+ghost use Rattle.std.specs.Prelude.{◌≡◌, ◌≤◌, [], None, length, IfErr, IfSome, OnErr, OnOk};
 ghost use Rattle.spe_model.specs.Faults.{Rose};
 ghost use Rattle.spe_space.specs.declared.fault.SpaceFault.TheVariants.{Read};
 ghost use Rattle.spe_space.specs.Outcome.{IsInside};
@@ -48,6 +48,7 @@ pub(crate) fn read_once<D: Disk, N: Opening>(
     ensures id { pass.new.id ≡ pass.old.id }
     ensures fault { IfErr result (λ fault. fault ≡ Read) }
     ensures cause { OnErr result (Rose store.old.desk.reads store.new.desk.reads) }
+    ensures later { store.old.desk.reads ≤ store.new.desk.reads }
     ensures below { StaysBelow N.opened store.old store.new }
     ensures len { length buf.new ≡ length buf.old }
     ensures tied { IsTied store.new pass.new }

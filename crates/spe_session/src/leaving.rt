@@ -1,11 +1,13 @@
 //! A transaction leaves its store: its id comes back.
 
-ghost use Rattle.std.specs.Prelude.{◌≡◌, None, Some, false, length, max};
+ghost use Rattle.std.specs.Prelude.{◌≡◌, ℕ, None, Some, false, length, max};
+ghost use Rattle.spe_model.specs.Faults.{Rose};
+ghost use Rattle.spe_space.specs.declared.fault.SpaceFault.TheVariants.{Full, Read};
 ghost use Rattle.spe_store.specs.Call.{IsTied};
 ghost use Rattle.spe_store.specs.Event.{entries_in, open_in, seen_in};
 ghost use Rattle.spe_store.specs.Store.{AreSeen, IfTold, pages_in};
 ghost use Rattle.spe_session.specs.Alone.{IsAlone, IsIdle};
-ghost use Rattle.spe_session.specs.Below.{below_of};
+ghost use Rattle.spe_session.specs.Below.{HasNoRoom, below_of};
 ghost use Rattle.spe_session.specs.Ending.{IsLeft};
 
 use crate::beginning::Beginning;
@@ -57,6 +59,8 @@ impl<D: Disk, N: Opening, K: Beginning> Pager<D, N, K> {
         ensures sized { result.store.page_size ≡ ⟦<Pager<D, N, K> as Pages>⟧.size self }
         ensures number { result.number ≡ length K.begun.entries }
         ensures idle { IsIdle result.store.events }
+        ensures caused { ⟦<Pager<D, N, K> as Pages>⟧.refusal self ≡ Some Read → Rose K.begun.reads result.store.desk.reads }
+        ensures filled { (number : ℕ) → ⟦<Pager<D, N, K> as Pages>⟧.refusal self ≡ Some (Full number) → HasNoRoom number result.store.page_size }
         ensures agrees { IfTold K.begun.told (λ _. AreSeen (pages_in N.opened result.store.events) (⟦<Pager<D, N, K> as Pages>⟧.seen self)) }
         ensures told { below_of N.opened result.store ≡ ⟦<Pager<D, N, K> as Pages>⟧.told self }
         ensures session { session.new ≡ record session.old { told = max session.old.told result.number } }

@@ -1,14 +1,16 @@
 //! The pages of one transaction.
 
-ghost use Rattle.std.specs.Prelude.{◌≡◌, ◌≤◌, ◌*◌, ◌+◌, ◌-◌, ◌/◌, ◌^◌, ◌∷◌, ℕ, [], None, Some, IfSome, length, replicate, false, true};
+ghost use Rattle.std.specs.Prelude.{◌≡◌, ◌≤◌, ◌<◌, ◌*◌, ◌+◌, ◌-◌, ◌/◌, ◌^◌, ◌∷◌, ℕ, [], None, Some, IfSome, length, replicate, false, true};
+ghost use Rattle.spe_model.specs.Faults.{Rose};
 ghost use Rattle.spe_model.specs.Paging.{Agrees, IsPageSize, IsUsableSize};
 ghost use Rattle.spe_model.specs.Settled.{IsWithinLimits};
+ghost use Rattle.spe_space.specs.declared.fault.SpaceFault.TheVariants.{Full, Read};
 ghost use Rattle.spe_space.specs.Outcome.{IsInside, refusal_of};
 ghost use Rattle.spe_store.specs.Call.{IsTied};
 ghost use Rattle.spe_store.specs.Event.{entries_in, seen_in};
 ghost use Rattle.spe_store.specs.Event.Event.{Begun};
 ghost use Rattle.spe_session.specs.Alone.{IsAlone, IsReading};
-ghost use Rattle.spe_session.specs.Below.{IsAdmitted, IsBelow, IsUnwritten, admits_own, below_of};
+ghost use Rattle.spe_session.specs.Below.{HasNoRoom, IsAdmitted, IsBelow, IsUnwritten, admits_own, below_of};
 ghost use Rattle.spe_session.specs.Pages.{AreSized, AreUpTo, IsShown, KeepsSeen, are_numbered, bytes_at, front_read, front_shown, laid_in};
 
 use crate::beginning::Beginning;
@@ -74,8 +76,13 @@ pub struct Pager<D: Disk, N: Opening, K: Beginning> {
     ghost more: { store.count ≤ pages },
     ghost few: { pages ≤ limit },
     ghost bounded: { limit * size ≤ 2 ^ 30 },
+    ghost most: { 2 ^ 30 < (limit + 1) * size },
     // Nobody else holds a page, and the store has not stopped.
     ghost admitted: { IsAdmitted refusal },
+    // A refusal has its cause: a reading that failed since the transaction began, or a file that is full.
+    ghost later: { K.begun.reads ≤ store.desk.reads },
+    ghost caused: { refusal ≡ Some Read → Rose K.begun.reads store.desk.reads },
+    ghost filled: { (number : ℕ) → refusal ≡ Some (Full number) → HasNoRoom number size },
 }
 
 /// What a pager was made of, in which nothing was written.
@@ -107,6 +114,7 @@ impl<D: Disk, N: Opening, K: Beginning> Pager<D, N, K> {
         requires counted { store.count ≡ K.begun.count }
         requires id { pass.id ≡ K.begun.id }
         requires own { first ≡ K.begun.first }
+        requires reads { K.begun.reads ≤ store.desk.reads }
         requires unwritten { IsUnwritten store.events }
         requires alone { IsAlone store.events pass.id }
         requires reading { IsReading store.events pass.id }
@@ -145,6 +153,8 @@ impl<D: Disk, N: Opening, K: Beginning> Pager<D, N, K> {
         ensures counted { result.store.count ≡ K.begun.count }
         ensures sized { result.store.page_size ≡ ⟦<Pager<D, N, K> as Pages>⟧.size self }
         ensures id { result.pass.id ≡ K.begun.id }
+        ensures caused { ⟦<Pager<D, N, K> as Pages>⟧.refusal self ≡ Some Read → Rose K.begun.reads result.store.desk.reads }
+        ensures filled { (number : ℕ) → ⟦<Pager<D, N, K> as Pages>⟧.refusal self ≡ Some (Full number) → HasNoRoom number result.store.page_size }
         ensures going { result.store.desk.stopped ≡ None }
         ensures tied { IsTied result.store result.pass }
         ensures unwritten { IsUnwritten result.store.events }
@@ -168,6 +178,8 @@ impl<D: Disk, N: Opening, K: Beginning> Pager<D, N, K> {
     // Keeps a fault other than want of memory, and gives it back.
     pub(crate) fn refuse(&mut self, fault: SpaceFault) -> SpaceFault
         requires admitted { admits_own fault ≡ true }
+        requires caused { fault ≡ Read → Rose K.begun.reads self.old.store.desk.reads }
+        requires filled { (number : ℕ) → fault ≡ Full number → HasNoRoom number self.old.size }
         ensures fault { result ≡ fault }
         ensures kept { self.new.refusal ≡ refusal_of fault self.old.refusal }
         ensures store { self.new.store ≡ self.old.store }

@@ -10,14 +10,14 @@ ghost use Rattle.spe_model.specs.declared.transcript.Outcome.TheVariants.{Fault}
 ghost use Rattle.spe_frame.specs.Times.{times};
 ghost use Rattle.spe_exec.specs.Writes.{is_built};
 ghost use Rattle.spe_store.specs.Call.{IsTied, IsUnbegun};
-ghost use Rattle.spe_store.specs.Event.{entries_in, open_in};
+ghost use Rattle.spe_store.specs.Event.{broken_in, entries_in, open_in};
 ghost use Rattle.spe_store.specs.Event.Event.{Begun};
 ghost use Rattle.spe_store.specs.Served.{AreServed};
 ghost use Rattle.spe_store.specs.Store.{IfTold};
 ghost use Rattle.spe_session.specs.Alone.{IsAlone, IsReading};
 ghost use Rattle.spe_session.specs.Below.{IsUnwritten};
 ghost use Rattle.spe_session.specs.Ending.{WasServed};
-ghost use Rattle.spe_session.specs.Transaction.{AreRight, EndsAs, Enters, EntersBy, HasReason, IsCounted, IsResting, IsTold, IsToldBy, StaysStopped, WhereWasServed, unbegun_outcome};
+ghost use Rattle.spe_session.specs.Transaction.{AreRight, BreaksAs, EndsAs, Enters, EntersBy, HasReason, IsCounted, IsFilled, IsResting, IsTold, IsToldBy, KeepsBroken, ReadsFailed, StaysStopped, StopsWhole, WhereWasServed, unbegun_outcome};
 
 use crate::alone::alone_law;
 use crate::beginning::Beginning;
@@ -76,10 +76,12 @@ fn turn_away<D: Disk, N: Opening>(
     ensures enters { entries_in result.store.events ≡ entries_in store.events }
     ensures replies { result.replies ≡ [] }
     ensures outcome { result.outcome ≡ Fault (length (entries_in store.events)) (Corrupt 1) }
+    ensures unbroken { broken_in result.store.events ≡ None }
     ensures session { IsToldBy (entries_in result.store.events) session.old session.new result.outcome }
     ensures resting { IsResting result.store }
 {
     let Left { store, number } = leave(store, pass, session);
+    store.keeps();
     Ran {
         store,
         outcome: Outcome::Fault {
@@ -111,6 +113,7 @@ fn work<D: Disk, N: Opening, K: Beginning>(
     requires counted { store.count ≡ K.begun.count }
     requires id { pass.id ≡ K.begun.id }
     requires own { base.first ≡ K.begun.first }
+    requires reads { K.begun.reads ≤ store.desk.reads }
     requires unwritten { IsUnwritten store.events }
     requires alone { IsAlone store.events pass.id }
     requires reading { IsReading store.events pass.id }
@@ -123,6 +126,10 @@ fn work<D: Disk, N: Opening, K: Beginning>(
     ensures ends { EndsAs body result.outcome }
     ensures right { IfTold K.begun.told (λ _. (db : Database) → AreServed N.opened.read N.opened.pages db → AreRight K.begun.entries db body result.replies result.outcome) }
     ensures reason { HasReason result.store.desk result.outcome }
+    ensures reads { ReadsFailed K.begun.reads result.store.desk.reads result.outcome }
+    ensures filled { IsFilled result.store.page_size result.outcome }
+    ensures broken { BreaksAs turn.client turn.tx body result.replies result.outcome (broken_in result.store.events) }
+    ensures whole { IfTold K.begun.told (λ _. (db : Database) → AreServed N.opened.read N.opened.pages db → StopsWhole K.begun.entries db body result.replies result.outcome) }
     ensures session { IsToldBy (entries_in result.store.events) session.old session.new result.outcome }
     ensures resting { IsResting result.store }
 {
@@ -147,7 +154,9 @@ fn work<D: Disk, N: Opening, K: Beginning>(
 ///
 /// The replies are those to its statements up to the first fault. The outcome's number is that of its
 /// commit, or else of the commits that it saw. `StaysStopped`: once the store has stopped, each transaction
-/// ends with the operation at which it did. Over a disk that does not tell its files, `Corrupt` of page 1
+/// ends with the operation at which it did. A transaction that stops a store has made all its replies, and
+/// the commit that may have been made all the same, where there is one, is its own. `Full` comes only where
+/// sixteen pages more would take over 2^30 bytes. Over a disk that does not tell its files, `Corrupt` of page 1
 /// comes also where page 1 does not name the sizes that recovery found or the number of pages that the
 /// store has.
 pub fn run_tx<D: Disk, N: Opening>(
@@ -171,6 +180,10 @@ pub fn run_tx<D: Disk, N: Opening>(
     ensures ends { EndsAs body result.outcome }
     ensures right { WhereWasServed N.opened (λ db. AreRight (entries_in store.events) db body result.replies result.outcome) }
     ensures reason { HasReason result.store.desk result.outcome }
+    ensures reads { ReadsFailed store.desk.reads result.store.desk.reads result.outcome }
+    ensures filled { IsFilled result.store.page_size result.outcome }
+    ensures broken { KeepsBroken store result.store turn.client turn.tx body result.replies result.outcome }
+    ensures whole { store.desk.stopped ≡ None → WhereWasServed N.opened (λ db. StopsWhole (entries_in store.events) db body result.replies result.outcome) }
     ensures session { IsTold store result.store session.old session.new result.outcome }
     ensures stopped { StaysStopped store result.store result.outcome }
     ensures resting { IsResting result.store }

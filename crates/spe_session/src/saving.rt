@@ -7,7 +7,7 @@ ghost use Rattle.spe_store.specs.Call.{IsTied};
 ghost use Rattle.spe_store.specs.Event.{journalled_in, open_in, written_in};
 ghost use Rattle.spe_session.specs.Alone.{IsAlone};
 ghost use Rattle.spe_session.specs.Pages.{bytes_at};
-ghost use Rattle.spe_session.specs.Working.{AreSaved, IsFault, IsFirstWithin, Saves};
+ghost use Rattle.spe_session.specs.Working.{AreSaved, IsFault, IsFirstWithin, ReadsFrom, Saves};
 
 use crate::fault::{EndFault, end_fault};
 use crate::page_set::PageSet;
@@ -45,6 +45,8 @@ fn save_page<D: Disk, N: Opening>(
     ensures saves { Saves pass.old.id store.old.events store.new.events }
     ensures going { OnOk result (store.new.desk.stopped ≡ None) }
     ensures fault { IfErr result (IsFault N.opened store.new) }
+    ensures reads { IfErr result (ReadsFrom store.old.desk.reads store.new.desk.reads) }
+    ensures later { store.old.desk.reads ≤ store.new.desk.reads }
     ensures tied { IsTied store.new pass.new }
     ensures id { pass.new.id ≡ pass.old.id }
     ensures sized { store.new.page_size ≡ store.old.page_size }
@@ -74,6 +76,8 @@ pub(crate) fn save_pages<D: Disk, N: Opening>(
     ensures saves { Saves pass.old.id store.old.events store.new.events }
     ensures going { OnOk result (store.new.desk.stopped ≡ None) }
     ensures fault { IfErr result (IsFault N.opened store.new) }
+    ensures reads { IfErr result (ReadsFrom store.old.desk.reads store.new.desk.reads) }
+    ensures later { store.old.desk.reads ≤ store.new.desk.reads }
     ensures tied { IsTied store.new pass.new }
     ensures id { pass.new.id ≡ pass.old.id }
     ensures sized { store.new.page_size ≡ store.old.page_size }

@@ -6,8 +6,8 @@ ghost use Rattle.spe_store.specs.Call.{IsTied, MayEnd, own_count};
 ghost use Rattle.spe_store.specs.Event.{broken_in, entries_in, lives_in, open_in, seen_in, written_in};
 ghost use Rattle.spe_store.specs.Served.{asked_of};
 ghost use Rattle.spe_session.specs.Alone.{IsAlone};
-ghost use Rattle.spe_session.specs.Ending.{AddsEntry, FailsEnd, IsBrokenBy};
-ghost use Rattle.spe_session.specs.Working.{IsFault};
+ghost use Rattle.spe_session.specs.Ending.{AddsEntry, FailsEnd, IsBrokenBy, NamesCut};
+ghost use Rattle.spe_session.specs.Working.{IsFault, IsStop};
 
 use crate::fault::{EndFault, end_fault};
 use spe_disk::Disk;
@@ -36,6 +36,8 @@ pub(crate) fn seal<D: Disk, N: Opening>(
     ensures fault { IfErr result (IsFault N.opened store.new) }
     ensures fails { OnErr result (FailsEnd pass.old.id store.old store.new) }
     ensures broken { OnErr result (IsBrokenBy session.old.number log.now (broken_in store.new.events)) }
+    ensures names { IfErr result (NamesCut (broken_in store.new.events)) }
+    ensures stop { IfErr result IsStop }
     ensures told { IfOk result (λ number. session.new ≡ record session.old { told = number }) }
     ensures session { OnErr result (session.new ≡ session.old) }
     ensures tied { IsTied store.new pass.new }

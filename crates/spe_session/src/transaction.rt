@@ -3,7 +3,7 @@
 ghost use Rattle.std.specs.Prelude.{◌≡◌, ◌<◌, ◌≤◌, [], All, IfErr, None, OnOk, length, true, ℕ};
 ghost use Rattle.spe_model.specs.declared.transaction.End.TheVariants as ends;
 ghost use Rattle.spe_model.specs.Database.{Database};
-ghost use Rattle.spe_store.specs.Event.{entries_in};
+ghost use Rattle.spe_store.specs.Event.{broken_in, entries_in};
 ghost use Rattle.spe_store.specs.Served.{AreServed};
 ghost use Rattle.spe_store.specs.Store.{IfTold};
 ghost use Rattle.spe_model.specs.declared.statement.Statement.{Statement as AnyStatement};
@@ -12,7 +12,7 @@ ghost use Rattle.spe_exec.specs.Justifying.{JustifiedIn};
 ghost use Rattle.spe_exec.specs.Writes.{is_built};
 ghost use Rattle.spe_session.specs.Carried.{IsFront};
 ghost use Rattle.spe_session.specs.Ending.{WasServed};
-ghost use Rattle.spe_session.specs.Transaction.{AreRight, EndsAs, EntersBy, HasReason, IsOwnFault, IsResting, IsToldBy, OnTreeFull, number_of, outcome_after, outcome_of};
+ghost use Rattle.spe_session.specs.Transaction.{AreRight, BreaksAs, EndsAs, EntersBy, HasReason, IsFilled, IsKept, IsOwnFault, IsResting, IsToldBy, OnTreeFull, ReadsFailed, StopsWhole, number_of, outcome_after, outcome_of};
 
 use crate::beginning::Beginning;
 use crate::carrying::carry_out;
@@ -72,15 +72,21 @@ pub(crate) fn fail<D: Disk, N: Opening, K: Beginning>(
     requires front { IsFront ⟦<Pager<D, N, K> as Pages>⟧ N.opened.read body.now.kind body.now.statements replies pager }
     requires own { IsOwnFault fault }
     requires short { OnTreeFull (length replies < length body.now.statements) fault }
+    requires kept { IsKept (⟦<Pager<D, N, K> as Pages>⟧.refusal pager) fault }
     ensures enters { (client tx : ℕ) → EntersBy K.begun.entries (entries_in result.store.events) client tx body.now result.replies result.outcome }
     ensures ends { EndsAs body.now result.outcome }
     ensures right { IfTold K.begun.told (λ _. (db : Database) → AreServed N.opened.read N.opened.pages db → AreRight K.begun.entries db body.now result.replies result.outcome) }
     ensures reason { HasReason result.store.desk result.outcome }
+    ensures reads { ReadsFailed K.begun.reads result.store.desk.reads result.outcome }
+    ensures filled { IsFilled result.store.page_size result.outcome }
+    ensures unbroken { broken_in result.store.events ≡ None }
+    ensures whole { IfTold K.begun.told (λ _. (db : Database) → AreServed N.opened.read N.opened.pages db → StopsWhole K.begun.entries db body.now result.replies result.outcome) }
     ensures session { IsToldBy (entries_in result.store.events) session.old session.new result.outcome }
     ensures resting { IsResting result.store }
 {
     pager.rests();
     let Left { store, number } = pager.give_up(session);
+    store.keeps();
     Ran {
         store,
         outcome: outcome_of(number, fault),
@@ -103,11 +109,16 @@ fn roll_back<D: Disk, N: Opening, K: Beginning>(
     ensures ends { EndsAs body.now result.outcome }
     ensures right { IfTold K.begun.told (λ _. (db : Database) → AreServed N.opened.read N.opened.pages db → AreRight K.begun.entries db body.now result.replies result.outcome) }
     ensures reason { HasReason result.store.desk result.outcome }
+    ensures reads { ReadsFailed K.begun.reads result.store.desk.reads result.outcome }
+    ensures filled { IsFilled result.store.page_size result.outcome }
+    ensures unbroken { broken_in result.store.events ≡ None }
+    ensures whole { IfTold K.begun.told (λ _. (db : Database) → AreServed N.opened.read N.opened.pages db → StopsWhole K.begun.entries db body.now result.replies result.outcome) }
     ensures session { IsToldBy (entries_in result.store.events) session.old session.new result.outcome }
     ensures resting { IsResting result.store }
 {
     pager.rests();
     let Left { store, number } = pager.give_up(session);
+    store.keeps();
     Ran {
         store,
         outcome: Outcome::Rollback { number },
@@ -161,6 +172,10 @@ fn commit_all<D: Disk, N: Opening, K: Beginning>(
     ensures ends { EndsAs body result.outcome }
     ensures right { IfTold K.begun.told (λ _. (db : Database) → AreServed N.opened.read N.opened.pages db → AreRight K.begun.entries db body result.replies result.outcome) }
     ensures reason { HasReason result.store.desk result.outcome }
+    ensures reads { ReadsFailed K.begun.reads result.store.desk.reads result.outcome }
+    ensures filled { IsFilled result.store.page_size result.outcome }
+    ensures broken { BreaksAs turn.client turn.tx body result.replies result.outcome (broken_in result.store.events) }
+    ensures whole { IfTold K.begun.told (λ _. (db : Database) → AreServed N.opened.read N.opened.pages db → StopsWhole K.begun.entries db body result.replies result.outcome) }
     ensures session { IsToldBy (entries_in result.store.events) session.old session.new result.outcome }
     ensures resting { IsResting result.store }
 {
@@ -172,6 +187,7 @@ fn commit_all<D: Disk, N: Opening, K: Beginning>(
         replies,
     };
     let Ended { store, answer } = pager.commit(session, &log);
+    store.keeps();
     let Log { replies, .. } = log;
     Ran {
         store,
@@ -196,6 +212,10 @@ pub(crate) fn finish<D: Disk, N: Opening, K: Beginning>(
     ensures ends { EndsAs body result.outcome }
     ensures right { IfTold K.begun.told (λ _. (db : Database) → AreServed N.opened.read N.opened.pages db → AreRight K.begun.entries db body result.replies result.outcome) }
     ensures reason { HasReason result.store.desk result.outcome }
+    ensures reads { ReadsFailed K.begun.reads result.store.desk.reads result.outcome }
+    ensures filled { IsFilled result.store.page_size result.outcome }
+    ensures broken { BreaksAs turn.client turn.tx body result.replies result.outcome (broken_in result.store.events) }
+    ensures whole { IfTold K.begun.told (λ _. (db : Database) → AreServed N.opened.read N.opened.pages db → StopsWhole K.begun.entries db body result.replies result.outcome) }
     ensures session { IsToldBy (entries_in result.store.events) session.old session.new result.outcome }
     ensures resting { IsResting result.store }
 {
@@ -225,6 +245,7 @@ pub(crate) fn carry_known<D: Disk, N: Opening, K: Beginning>(
     ensures front { IsFront ⟦<Pager<D, N, K> as Pages>⟧ N.opened.read kind statements.now replies.new.items pager.new }
     ensures own { IfErr result IsOwnFault }
     ensures short { IfErr result (OnTreeFull (length replies.new.items < length statements.now)) }
+    ensures kept { IfErr result (IsKept (⟦<Pager<D, N, K> as Pages>⟧.refusal pager.new)) }
 {
     match pager.knows_front() {
         Ok(true) => carry_out(alloc, pager, catalog, statements, kind, replies),

@@ -1,5 +1,5 @@
 -- A store begins: the absent journals are made.
-use Rattle.std.proofs.Common.{◌≡◌, ◌≢◌, ℕ, suc, zero, ◌+◌, ◌<◌, ◌≤◌, List, [], ◌∷◌, ◌++◌, length, filter, All, refl, sym, ap, ◌∙◌, subst, arith, Bool, true, false, Option, Some, None, Ok, Err, ⊎_elim}
+use Rattle.std.proofs.Common.{◌≡◌, ◌≢◌, ℕ, suc, zero, ◌+◌, ◌<◌, ◌≤◌, List, [], ◌∷◌, ◌++◌, length, filter, All, refl, sym, ap, ◌∙◌, subst, arith, Bool, true, false, Option, Some, None, Result, Ok, Err, ⊎_elim}
 use Rattle.std.specs.Prelude.{is_none, nat_lt, slice_get}
 use Rattle.std.specs.List.{range_with_len}
 use Rattle.std.specs.Option.{option_map}
@@ -129,6 +129,12 @@ cuts_failed opened None now e o makes = subst (λ (t : Option History). IfTold t
 cuts_failed opened (Some h) now e o makes =
     subst (λ (t : Option History). IfTold t (λ g. CutsAreServed opened g [])) (sym makes.3)
     (cuts_quiet opened (grown h (makings makes.0)) (all_made opened h makes.0 (front_low (absent_journals (present h)) makes.0 makes.1 makes.2 (absent_low (present h))) (quiet_opening opened h o)))
+
+-- whatever was made, the disk is that of the opening
+pub same_first : (told now : Option History) (first : Option Content) (result : Result ℕ Failed) → first_of told ≡ first → MakesJournals told now result → first_of now ≡ first
+same_first None now first result is makes = ap first_of makes ∙ is
+same_first (Some h) now first (Ok made) is makes = ap first_of makes.1 ∙ is
+same_first (Some h) now first (Err e) is makes = ap first_of makes.3 ∙ is
 
 module _ (opened : Opened) (works : List Work) (idle : AreIdle works) (page_size count ops : ℕ) (low : 512 ≤ page_size) (high : page_size ≤ 65536) (size_is_found : page_size ≡ opened.found.page_size) (count_is_found : count ≡ opened.found.pages) where
   lists : AreListed page_size [] works

@@ -15,10 +15,13 @@ pub record Desk : Type 0 where
   pub reads : ℕ
   pub faults : ℕ
 
--- where it is told and has not stopped, the operations are counted
+-- Where it is told, the operations are counted. One that has failed, and at which it has stopped, was made or was not, and none
+-- is made after that.
 abbrev pub Counts : Option History → Option ℕ → ℕ → Type 0
+Counts None None ops = Unit {0}
+Counts None (Some op) ops = ops ≤ op
 Counts (Some h) None ops = ops ≡ length h.trace
-Counts _ _ ops = Unit {0}
+Counts (Some h) (Some op) ops = (ops ≤ length h.trace) × (length h.trace ≤ op)
 
 -- the operation was made
 pub record Does (old new : Desk) (o : Operation) : Type 0 where

@@ -15,7 +15,7 @@ use spe_journal::{HEAD_BYTES, put_head};
 use std::alloc::AllocError;
 
 impl<D: Disk, N: Opening> Store<D, N> {
-    ghost use Rattle.std.specs.Prelude.{◌≡◌, true, false, length, OnOk, IfErr};
+    ghost use Rattle.std.specs.Prelude.{◌≡◌, ◌≤◌, true, false, length, OnOk, IfErr};
     ghost use Rattle.spe_model.specs.Journal.{head_bytes};
     ghost use Rattle.spe_model.specs.declared.file.FileNo.TheVariants.{Journal};
     ghost use Rattle.spe_model.specs.Trace.Operation.{Write};
@@ -69,6 +69,7 @@ impl<D: Disk, N: Opening> Store<D, N> {
         requires may { MayJournal self.old pass.old.id page }
         ensures done { OnOk result (HasJournalled N.opened self.old self.new pass.old pass.new page) }
         ensures unsaved { IfErr result (IsUnsaved self.old self.new) }
+        ensures reads { self.old.desk.reads ≤ self.new.desk.reads }
         ensures pass { IfErr result (λ _. pass.new ≡ pass.old) }
         ensures tied { IsTied self.new pass.new }
         ensures others { OthersStay self.new.events self.old.events pass.old.id }

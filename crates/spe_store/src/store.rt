@@ -66,6 +66,7 @@ impl<D: Disk, N: Opening> Store<D, N> {
     ghost use Rattle.spe_store.specs.Store.{IfTold, IsOf, NeverFall};
     ghost use Rattle.spe_model.specs.Settled.{IsWithinLimits};
     ghost use Rattle.spe_store.specs.Call.{CutsAreLeft, CutsAreServed, HasOpened, IsNew, IsUnopened, KeepsCuts, KeepsPages};
+    ghost use Rattle.spe_store.specs.Desk.{Counts};
     ghost use Rattle.spe_store.specs.Event.{broken_in, entries_in};
     ghost use Rattle.spe_store.specs.Served.{rows_from};
 
@@ -86,6 +87,7 @@ impl<D: Disk, N: Opening> Store<D, N> {
         ensures new { IfOk result (IsNew N.opened) }
         ensures unopened { IfErr result (λ fault. IsUnopened N.opened (D.op_faults fault.disk) fault.why) }
         ensures cuts { IfErr result (λ fault. IfTold (D.told fault.disk) (λ h. CutsAreServed N.opened h [])) }
+        ensures same { IfErr result (λ fault. option_map (λ (h : History). h.first) (D.told fault.disk) ≡ N.opened.first) }
         ensures attached { IfErr result (λ fault. D.attached fault.disk ≡ true) }
         ensures readings { IfErr result (λ fault. D.read_faults fault.disk ≡ D.read_faults disk) }
     {
@@ -141,13 +143,18 @@ impl<D: Disk, N: Opening> Store<D, N> {
     /// Gives the disk and the list of commits.
     ///
     /// At each cut of the trace the recovered pages are those after the commits within it. Where the store has
-    /// stopped at the cut of a commit, this may count as one more.
+    /// stopped at the cut of a commit, this may count as one more. What is known of the disk is what the store
+    /// knew of it; once it has stopped at an operation, no later one was made.
     pub fn close(self) -> Parts<D>
         ensures order { result.order ≡ rows_from 1 (entries_in self.events) }
         ensures sorted { NeverFall result.order }
         ensures cuts { IfTold (D.told result.disk) (λ h. CutsAreLeft N.opened h (entries_in self.events) (broken_in self.events)) }
         ensures disk { IsOf N.opened (record self.desk { told = D.told result.disk; reads = D.read_faults result.disk; faults = D.op_faults result.disk }) }
         ensures attached { D.attached result.disk ≡ true }
+        ensures told { D.told result.disk ≡ self.desk.told }
+        ensures reads { D.read_faults result.disk ≡ self.desk.reads }
+        ensures faults { D.op_faults result.disk ≡ self.desk.faults }
+        ensures counted { Counts self.desk.told self.desk.stopped self.desk.ops }
     {
         let Store { desk, order, .. } = self;
         Parts {

@@ -1,8 +1,11 @@
 //! Free lists that the command `prepare` puts in server form: what is printed, the bytes, stops, refusals
 //! and failures. That a file has no room is not tried, as it would take a file of 2^30 bytes.
 
+ghost use Rattle.std.specs.Prelude.{◌≡◌, false, IfOk};
+ghost use Rattle.spe_disk.specs.Memory.{is_attached};
+
 use super::files::{PEOPLE, PEOPLE_PREPARED, PEOPLE_ROWS, Patch, file_of, lay};
-use super::run::{Ended, disk_of, disk_reading, ended_of, holds, is_ended, prints};
+use super::run::{Ended, disk_of, disk_reading, ended_of, expect, holds, is_ended, prints};
 use spe_disk::MemDisk;
 use std::alloc::{AllocError, Global};
 use std::process::Abort;
@@ -137,10 +140,6 @@ static CASES: [Case; 5] = [
     },
 ];
 
-fn expect(rt: &impl Abort, step: &str, at: u64, holds: bool) {
-    assert!(rt; holds, "{step} {at}");
-}
-
 fn prepared<R: Threads + Wait + Sync>(
     rt: &R,
     alloc: Global,
@@ -196,18 +195,24 @@ fn stands<R: Threads + Wait + Sync>(
     Ok(checked && refused && released)
 }
 
-fn expect_file<R: Abort>(
+// Whether a disk holds the file of a case at last.
+fn holds_case(alloc: Global, case: &Case, disk: &MemDisk) -> Result<bool, AllocError> {
+    let mut wanted = file_of(alloc, case.grown, &PEOPLE, case.before)?;
+    lay(&mut wanted, case.after);
+    holds(alloc, disk, &wanted)
+}
+
+fn expect_ended<R: Threads + Wait + Sync + Abort>(
     rt: &R,
     alloc: Global,
     case: &Case,
     ended: &Ended,
 ) -> Result<(), AllocError> {
-    let mut wanted = file_of(alloc, case.grown, &PEOPLE, case.before)?;
-    lay(&mut wanted, case.after);
-    let held = holds(alloc, &ended.disk, &wanted)?;
     let printed = is_ended(ended, 0, case.text, case.ops);
-    expect(rt, case.text, 0, held && printed);
-    Ok(())
+    let held = holds_case(alloc, case, &ended.disk)?;
+    let right = stands(rt, alloc, case, &ended.disk)?;
+    expect(rt, case.text, 0, printed && held && right);
+    expect_stops(rt, alloc, case, &ended.disk)
 }
 
 fn expect_case<R: Threads + Wait + Sync + Abort>(
@@ -216,10 +221,7 @@ fn expect_case<R: Threads + Wait + Sync + Abort>(
     case: &Case,
 ) -> Result<(), AllocError> {
     let ended = prepared(rt, alloc, case)?;
-    expect_file(rt, alloc, case, &ended)?;
-    let right = stands(rt, alloc, case, &ended.disk)?;
-    expect(rt, case.text, 1, right);
-    expect_stops(rt, alloc, case, &ended.disk)
+    expect_ended(rt, alloc, case, &ended)
 }
 
 #[test]
@@ -241,24 +243,31 @@ static REFUSED: [(&[Patch], &str); 5] = [
 
 const WORDS: &[&str] = &["prepare", "people.db", "2"];
 
-fn expect_refused<R: Threads + Wait + Sync + Abort>(
-    rt: &R,
-    alloc: Global,
-    case: &(&[Patch], &str),
-) -> Result<(), AllocError> {
-    let (patches, text) = *case;
+// A disk with the table `p` in server form and these bytes.
+fn served_disk(alloc: Global, patches: &[Patch]) -> Result<MemDisk, AllocError>
+    ensures { IfOk result (λ d. is_attached d ≡ false) }
+{
     let mut file = file_of(alloc, 2560, &PEOPLE, &PEOPLE_PREPARED)?;
     lay(&mut file, patches);
-    let disk = disk_of(alloc, &file, 0, false)?;
+    disk_of(alloc, &file, 0, false)
+}
+
+fn refuses<R: Threads + Wait + Sync>(
+    rt: &R,
+    alloc: Global,
+    patches: &[Patch],
+    text: &str,
+) -> Result<bool, AllocError> {
+    let disk = served_disk(alloc, patches)?;
     let ended = ended_of(rt, alloc, WORDS, disk)?;
-    expect(rt, text, 0, is_ended(&ended, 2, text, 0));
-    Ok(())
+    Ok(is_ended(&ended, 2, text, 0))
 }
 
 #[test]
 fn refused(rt: HostRuntime) -> Result<(), Fail> {
-    for case in &REFUSED {
-        expect_refused(&rt, rt.alloc(), case)?;
+    for (patches, text) in &REFUSED {
+        let holds = refuses(&rt, rt.alloc(), *patches, *text)?;
+        expect(&rt, *text, 0, holds);
     }
     Ok(())
 }
@@ -268,63 +277,76 @@ fn uncounted(alloc: Global) -> Result<Vec<u8>, AllocError> {
     file_of(alloc, 1024, &PEOPLE, &[(95, b"\x01")])
 }
 
-fn expect_failed<R: Threads + Wait + Sync + Abort>(
+// Whether a run ended with a fault of the disk, and `rows` prints the same.
+fn has_failed<R: Threads + Wait + Sync>(
     rt: &R,
     alloc: Global,
-    at: u64,
     ended: &Ended,
-) -> Result<(), AllocError> {
+) -> Result<bool, AllocError> {
     let failed = is_ended(ended, 3, "fault disk\n", ended.disk.ops());
     let same = same_rows(rt, alloc, &ended.disk, (64, 0))?;
-    expect(rt, "failure", at, failed && same);
-    Ok(())
+    Ok(failed && same)
+}
+
+// A disk with that file, of which this operation fails.
+fn failing_disk(alloc: Global, op: u64, made: bool) -> Result<MemDisk, AllocError>
+    ensures { IfOk result (λ d. is_attached d ≡ false) }
+{
+    let file = uncounted(alloc)?;
+    disk_of(alloc, &file, op, made)
 }
 
 // An operation that fails, made all the same or not.
-fn expect_failure<R: Threads + Wait + Sync + Abort>(
+fn fails<R: Threads + Wait + Sync>(
     rt: &R,
     alloc: Global,
     op: u64,
     made: bool,
-) -> Result<(), AllocError> {
-    let file = uncounted(alloc)?;
-    let disk = disk_of(alloc, &file, op, made)?;
+) -> Result<bool, AllocError> {
+    let disk = failing_disk(alloc, op, made)?;
     let ended = ended_of(rt, alloc, WORDS, disk)?;
-    expect_failed(rt, alloc, op, &ended)
+    has_failed(rt, alloc, &ended)
 }
 
 #[test]
 fn failures(rt: HostRuntime) -> Result<(), Fail> {
     for op in 1..=27u64 {
         for made in [false, true] {
-            expect_failure(&rt, rt.alloc(), op, made)?;
+            let holds = fails(&rt, rt.alloc(), op, made)?;
+            expect(&rt, "failure", op, holds);
         }
     }
     Ok(())
 }
 
-// A reading call that fails; whether there is one of this number.
-fn fails<R: Threads + Wait + Sync + Abort>(
+// A disk with that file, of which this reading call fails.
+fn misread_disk(alloc: Global, read: u64) -> Result<MemDisk, AllocError>
+    ensures { IfOk result (λ d. is_attached d ≡ false) }
+{
+    let file = uncounted(alloc)?;
+    disk_reading(alloc, &file, read)
+}
+
+// A reading call that fails; there may be none of this number past the twentieth.
+fn fails_to_read<R: Threads + Wait + Sync>(
     rt: &R,
     alloc: Global,
     read: u64,
 ) -> Result<bool, AllocError> {
-    let file = uncounted(alloc)?;
-    let disk = disk_reading(alloc, &file, read)?;
+    let disk = misread_disk(alloc, read)?;
     let ended = ended_of(rt, alloc, WORDS, disk)?;
     if is_ended(&ended, 0, "prepared lists 2 pages 5\n", 27) {
-        return Ok(false);
+        return Ok(20 < read);
     }
-    expect_failed(rt, alloc, read, &ended)?;
-    Ok(true)
+    has_failed(rt, alloc, &ended)
 }
 
 // Each of the first twenty fails, and so do those after them, as long as there are any.
 #[test]
 fn failing_reads(rt: HostRuntime) -> Result<(), Fail> {
     for read in 1..=80u64 {
-        let failed = fails(&rt, rt.alloc(), read)?;
-        expect(&rt, "readings", read, failed || 20 < read);
+        let holds = fails_to_read(&rt, rt.alloc(), read)?;
+        expect(&rt, "readings", read, holds);
     }
     Ok(())
 }

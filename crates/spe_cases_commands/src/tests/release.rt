@@ -4,7 +4,7 @@
 use super::files::{
     PEOPLE, PEOPLE_PREPARED, PEOPLE_RELEASED, PEOPLE_ROWS, Patch, TWO, TWO_RELEASED, file_of, lay,
 };
-use super::run::{Ended, disk_of, ended_of, holds, is_ended, prints};
+use super::run::{Ended, disk_of, ended_of, expect, holds, is_ended, prints};
 use spe_disk::MemDisk;
 use std::alloc::{AllocError, Global};
 use std::process::Abort;
@@ -13,10 +13,6 @@ use std::test::Fail;
 use std::thread::Threads;
 
 const WORDS: &[&str] = &["release", "people.db"];
-
-fn expect(rt: &impl Abort, step: &str, at: u64, holds: bool) {
-    assert!(rt; holds, "{step} {at}");
-}
 
 // The table `p` in server form.
 fn prepared(alloc: Global, later: &[Patch]) -> Result<Vec<u8>, AllocError> {
@@ -36,15 +32,23 @@ fn released<R: Threads + Wait + Sync>(
     ended_of(rt, alloc, WORDS, disk)
 }
 
+fn two_released<R: Threads + Wait + Sync>(rt: &R, alloc: Global) -> Result<Ended, AllocError> {
+    let file = file_of(alloc, 3072, &TWO, &[])?;
+    released(rt, alloc, &file, 0, false)
+}
+
+fn holds_two(alloc: Global, disk: &MemDisk) -> Result<bool, AllocError> {
+    let wanted = file_of(alloc, 3072, &TWO, &TWO_RELEASED)?;
+    holds(alloc, disk, &wanted)
+}
+
 // Two empty tables: 16 journals are made, then the head is written, two records, page 1 but for 24 bytes,
 // the trunk, and the journal is cut.
 #[test]
 fn empty_tables(rt: HostRuntime) -> Result<(), Fail> {
-    let file = file_of(rt.alloc(), 3072, &TWO, &[])?;
-    let wanted = file_of(rt.alloc(), 3072, &TWO, &TWO_RELEASED)?;
-    let ended = released(&rt, rt.alloc(), &file, 0, false)?;
+    let ended = two_released(&rt, rt.alloc())?;
     let printed = is_ended(&ended, 0, "released free 3 pages 6\n", 22);
-    let held = holds(rt.alloc(), &ended.disk, &wanted)?;
+    let held = holds_two(rt.alloc(), &ended.disk)?;
     expect(&rt, "empty tables", 0, printed && held);
     Ok(())
 }
@@ -89,16 +93,39 @@ fn expect_again<R: Threads + Wait + Sync + Abort>(
 
 const NOT_PREPARED: (u8, &str) = (2, "refused not-prepared\n");
 
+// What a run over the table `p` with these bytes leaves, of which this operation fails.
+fn people_released<R: Threads + Wait + Sync>(
+    rt: &R,
+    alloc: Global,
+    patches: &[Patch],
+    op: u64,
+    made: bool,
+) -> Result<Ended, AllocError> {
+    let file = prepared(alloc, patches)?;
+    released(rt, alloc, &file, op, made)
+}
+
+fn holds_people(alloc: Global, disk: &MemDisk) -> Result<bool, AllocError> {
+    let wanted = prepared(alloc, &PEOPLE_RELEASED)?;
+    holds(alloc, disk, &wanted)
+}
+
+fn expect_people<R: Threads + Wait + Sync + Abort>(
+    rt: &R,
+    alloc: Global,
+    ended: &Ended,
+) -> Result<(), AllocError> {
+    let printed = is_ended(ended, 0, "released free 3 pages 5\n", 22);
+    let held = holds_people(alloc, &ended.disk)?;
+    expect(rt, "people", 0, printed && held);
+    expect_stops(rt, alloc, &ended.disk)?;
+    expect_again(rt, alloc, &ended.disk)
+}
+
 #[test]
 fn people(rt: HostRuntime) -> Result<(), Fail> {
-    let file = prepared(rt.alloc(), &[])?;
-    let wanted = prepared(rt.alloc(), &PEOPLE_RELEASED)?;
-    let ended = released(&rt, rt.alloc(), &file, 0, false)?;
-    let printed = is_ended(&ended, 0, "released free 3 pages 5\n", 22);
-    let held = holds(rt.alloc(), &ended.disk, &wanted)?;
-    expect(&rt, "people", 0, printed && held);
-    expect_stops(&rt, rt.alloc(), &ended.disk)?;
-    expect_again(&rt, rt.alloc(), &ended.disk)?;
+    let ended = people_released(&rt, rt.alloc(), &[], 0, false)?;
+    expect_people(&rt, rt.alloc(), &ended)?;
     Ok(())
 }
 
@@ -116,60 +143,47 @@ static REFUSED: [(&[Patch], &str); 9] = [
     (&[(31, b"\x06")], "refused short-file 6 2560\n"),
 ];
 
-fn expect_refused<R: Threads + Wait + Sync + Abort>(
-    rt: &R,
-    alloc: Global,
-    case: &(&[Patch], &str),
-) -> Result<(), AllocError> {
-    let (patches, text) = *case;
-    let file = prepared(alloc, patches)?;
-    let ended = released(rt, alloc, &file, 0, false)?;
-    expect(rt, text, 0, is_ended(&ended, 2, text, 0));
-    Ok(())
-}
-
 #[test]
 fn refused(rt: HostRuntime) -> Result<(), Fail> {
-    for case in &REFUSED {
-        expect_refused(&rt, rt.alloc(), case)?;
+    for (patches, text) in &REFUSED {
+        let ended = people_released(&rt, rt.alloc(), *patches, 0, false)?;
+        expect(&rt, *text, 0, is_ended(&ended, 2, *text, 0));
     }
     Ok(())
 }
 
+fn stock_released<R: Threads + Wait + Sync>(rt: &R, alloc: Global) -> Result<Ended, AllocError> {
+    let file = file_of(alloc, 1024, &PEOPLE, &[])?;
+    released(rt, alloc, &file, 0, false)
+}
+
 #[test]
 fn stock(rt: HostRuntime) -> Result<(), Fail> {
-    let file = file_of(rt.alloc(), 1024, &PEOPLE, &[])?;
-    let ended = released(&rt, rt.alloc(), &file, 0, false)?;
-    expect(
-        &rt,
-        "stock",
-        0,
-        is_ended(&ended, NOT_PREPARED.0, NOT_PREPARED.1, 0),
-    );
+    let ended = stock_released(&rt, rt.alloc())?;
+    let refused = is_ended(&ended, NOT_PREPARED.0, NOT_PREPARED.1, 0);
+    expect(&rt, "stock", 0, refused);
     Ok(())
 }
 
 // An operation that fails, made all the same or not.
-fn expect_failure<R: Threads + Wait + Sync + Abort>(
+fn fails<R: Threads + Wait + Sync>(
     rt: &R,
     alloc: Global,
     op: u64,
     made: bool,
-) -> Result<(), AllocError> {
-    let file = prepared(alloc, &[])?;
-    let ended = released(rt, alloc, &file, op, made)?;
-    let tried = ended.disk.ops();
-    let failed = is_ended(&ended, 3, "fault disk\n", tried);
+) -> Result<bool, AllocError> {
+    let ended = people_released(rt, alloc, &[], op, made)?;
+    let failed = is_ended(&ended, 3, "fault disk\n", ended.disk.ops());
     let same = same_rows(rt, alloc, &ended.disk, 64)?;
-    expect(rt, "failure", op, failed && same);
-    Ok(())
+    Ok(failed && same)
 }
 
 #[test]
 fn failures(rt: HostRuntime) -> Result<(), Fail> {
     for op in 1..=22u64 {
         for made in [false, true] {
-            expect_failure(&rt, rt.alloc(), op, made)?;
+            let holds = fails(&rt, rt.alloc(), op, made)?;
+            expect(&rt, "failure", op, holds);
         }
     }
     Ok(())

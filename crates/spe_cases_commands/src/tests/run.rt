@@ -7,13 +7,20 @@ use spe_disk::{Disk, Faults, FileNo, MemDisk, MemScripts, MemSink, OpenGate, sto
 use spe_model::{Numbers, Text, Words};
 use spe_serve::spe;
 use std::alloc::{AllocError, Global};
+use std::process::Abort;
 use std::sync::Wait;
 use std::thread::Threads;
+
+fn push_word(alloc: Global, words: &mut Vec<Text>, word: &str) -> Result<(), AllocError> {
+    let text = Text::new(String::from_str(alloc, word)?);
+    words.push(text)?;
+    Ok(())
+}
 
 fn words_of(alloc: Global, words: &[&str]) -> Result<Words, AllocError> {
     let mut found = Vec::new(alloc);
     for word in words {
-        found.push(Text::new(String::from_str(alloc, word)?))?;
+        push_word(alloc, &mut found, word)?;
     }
     Ok(Words::new(found))
 }
@@ -122,4 +129,9 @@ pub fn holds(alloc: Global, disk: &MemDisk, wanted: &[u8]) -> Result<bool, Alloc
     let mut left = stopped_at(alloc, disk, 64, 0)?;
     let _ = left.attach("left.db");
     reads(alloc, &mut left, wanted)
+}
+
+/// Expects that a step of a test holds.
+pub fn expect(rt: &impl Abort, step: &str, at: u64, holds: bool) {
+    assert!(rt; holds, "{step} {at}");
 }

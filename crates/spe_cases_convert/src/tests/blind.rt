@@ -10,7 +10,7 @@ use spe_rewrite::{Changes, RewriteFault, make_journals, rewrite};
 use std::alloc::{AllocError, Global};
 
 /// An operation that was tried.
-#[derive(Clone, Copy, Debug, PartialEq, Eq)]
+#[derive(Clone, Copy, PartialEq, Eq)]
 pub enum Made {
     /// A write: its file, its place, and how many bytes it has.
     Write(FileNo, u64, usize),

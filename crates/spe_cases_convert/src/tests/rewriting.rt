@@ -3,7 +3,7 @@
 ghost use Rattle.std.specs.Prelude.{◌≡◌, false, true};
 ghost use Rattle.spe_disk.specs.Memory.{is_attached};
 
-use super::blind::{Made, rewritten, two_pages, untouched};
+use super::blind::{Blind, Made, rewritten, two_pages, untouched};
 use super::files::{PAGE, file, journal};
 use spe_disk::{Disk, FileNo, MemDisk, stopped_at};
 use spe_model::{RecoverFault, Recovered};
@@ -42,98 +42,152 @@ fn file_of(alloc: Global, disk: &mut MemDisk) -> Result<Vec<u8>, AllocError>
     Ok(found)
 }
 
-// After so many operations, and so many bytes of the next, the pages are those before, or those after.
-fn expect(
-    rt: &impl Abort,
+fn has_pages(found: Result<Recovered, RecoverFault>, count: u32) -> bool {
+    matches!(found, Ok(Recovered { pages, .. }) if pages == count)
+}
+
+// Whether a disk's file is the one before, or the one after.
+fn has_file(alloc: Global, disk: &mut MemDisk, after: bool) -> Result<bool, AllocError>
+    requires { is_attached disk.old ≡ true }
+{
+    let wanted = file(alloc, after)?;
+    let found = file_of(alloc, disk)?;
+    Ok(found.as_slice() == wanted.as_slice())
+}
+
+// Whether recovery of a disk gives the pages before, or those after.
+fn comes_back(alloc: Global, disk: &mut MemDisk, after: bool) -> Result<bool, AllocError>
+    requires { is_attached disk.old ≡ false }
+{
+    let counted = has_pages(recovered(alloc, disk), if after { 3 } else { 2 });
+    let same = has_file(alloc, disk, after)?;
+    Ok(counted && same)
+}
+
+// The same of what a disk holds after so many operations, and so many bytes of the next.
+fn leaves(
     alloc: Global,
     disk: &MemDisk,
     ops: usize,
     bytes: usize,
     after: bool,
-) -> Result<(), AllocError> {
+) -> Result<bool, AllocError> {
     let mut left = stopped_at(alloc, disk, ops, bytes)?;
-    let count = recovered(alloc, &mut left).map(|found| found.pages);
-    assert_eq!(rt; count, Ok(if after { 3 } else { 2 }), "{ops} {bytes}");
-    let found = file_of(alloc, &mut left)?;
-    let wanted = file(alloc, after)?;
-    assert_eq!(rt; found.as_slice(), wanted.as_slice(), "{ops} {bytes}");
-    Ok(())
+    comes_back(alloc, &mut left, after)
+}
+
+fn expect(rt: &impl Abort, ops: u64, bytes: usize, holds: bool) {
+    assert!(rt; holds, "{ops} {bytes}");
 }
 
 // After so many of the operations all but one of the bytes of the next are these.
-static STOPS: [(usize, usize); 6] = [(16, 511), (17, 519), (18, 487), (19, 511), (20, 0), (21, 0)];
+static STOPS: [(u64, usize); 6] = [(16, 511), (17, 519), (18, 487), (19, 511), (20, 0), (21, 0)];
 
-#[test]
-fn stops(rt: HostRuntime) -> Result<(), Fail> {
-    let alloc = rt.alloc();
-    let mut done = two_pages(alloc, 0, 0, false)?;
-    assert_eq!(rt; rewritten(alloc, &mut done), Ok(21));
-    assert_eq!(rt; done.made.as_slice(), ALL.as_slice());
+fn expect_stops(rt: &impl Abort, alloc: Global, disk: &MemDisk) -> Result<(), AllocError> {
     for (ops, last) in &STOPS {
         for bytes in [0, 1, *last] {
-            expect(&rt, alloc, &done.disk, *ops, bytes, *ops == 21)?;
+            let holds = leaves(alloc, disk, *ops as usize, bytes, *ops == 21)?;
+            expect(rt, *ops, bytes, holds);
         }
     }
     Ok(())
 }
 
-// What the journal holds before its cut.
+// Whether the rewriting makes all.
+fn makes_all(alloc: Global, blind: &mut Blind) -> bool
+    requires { is_attached blind.old.disk ≡ true }
+{
+    let answer = rewritten(alloc, blind);
+    answer == Ok(21) && blind.made.as_slice() == ALL.as_slice()
+}
+
 #[test]
-fn journalled(rt: HostRuntime) -> Result<(), Fail> {
-    let alloc = rt.alloc();
-    let mut done = two_pages(alloc, 0, 0, false)?;
-    let _ = rewritten(alloc, &mut done);
-    let mut left = stopped_at(alloc, &done.disk, 20, 0)?;
-    let _ = left.attach("two.db");
-    let mut found = vec![in alloc; 0u8; 1033]?;
-    assert_eq!(rt;
-        left.read_at(FileNo::Journal(0), 0, &mut found).ok(),
-        Some(1032)
-    );
-    let wanted = journal(alloc)?;
-    let (front, _) = found.split_at(1032);
-    assert_eq!(rt; front, wanted.as_slice());
+fn stops(rt: HostRuntime) -> Result<(), Fail> {
+    let mut done = two_pages(rt.alloc(), 0, 0, false)?;
+    let made = makes_all(rt.alloc(), &mut done);
+    expect(&rt, 21, 0, made);
+    expect_stops(&rt, rt.alloc(), &done.disk)?;
     Ok(())
 }
 
+// Whether the journal has just the head and the record.
+fn has_journal(alloc: Global, disk: &mut MemDisk) -> Result<bool, AllocError>
+    requires { is_attached disk.old ≡ true }
+{
+    let wanted = journal(alloc)?;
+    let mut found = vec![in alloc; 0u8; 1033]?;
+    let read = disk.read_at(FileNo::Journal(0), 0, &mut found);
+    let (front, _) = found.split_at(1032);
+    Ok(read == Ok(1032) && front == wanted.as_slice())
+}
+
+// The same before the cut.
+fn had_journal(alloc: Global, disk: &MemDisk) -> Result<bool, AllocError> {
+    let mut left = stopped_at(alloc, disk, 20, 0)?;
+    let _ = left.attach("two.db");
+    has_journal(alloc, &mut left)
+}
+
+#[test]
+fn journalled(rt: HostRuntime) -> Result<(), Fail> {
+    let mut done = two_pages(rt.alloc(), 0, 0, false)?;
+    let _ = rewritten(rt.alloc(), &mut done);
+    let holds = had_journal(rt.alloc(), &done.disk)?;
+    expect(&rt, 20, 0, holds);
+    Ok(())
+}
+
+// Whether the rewriting fails once so many operations were made, and leaves the pages before, or those after.
+fn fails(alloc: Global, blind: &mut Blind, made: u64, after: bool) -> Result<bool, AllocError>
+    requires { is_attached blind.old.disk ≡ true }
+{
+    let answer = rewritten(alloc, blind);
+    let counted = blind.disk.ops() == made;
+    let left = leaves(alloc, &blind.disk, 32, 0, after)?;
+    Ok(answer == Err(RewriteFault::Disk) && counted && left)
+}
+
 // An operation that fails, made and not made: only the cut that was made turns the pages.
-fn expect_failure(rt: &impl Abort, alloc: Global, op: u64, made: bool) -> Result<(), AllocError> {
-    let mut failed = two_pages(alloc, op, 0, made)?;
-    assert_eq!(rt;
-        rewritten(alloc, &mut failed),
-        Err(RewriteFault::Disk),
-        "{op}"
-    );
-    assert_eq!(rt;
-        failed.disk.ops(),
-        if made { op } else { op.saturating_sub(1) },
-        "{op}"
-    );
-    expect(rt, alloc, &failed.disk, 32, 0, made && op == 21)
+fn operation_fails(alloc: Global, op: u64, made: bool) -> Result<bool, AllocError> {
+    let mut blind = two_pages(alloc, op, 0, made)?;
+    let count = if made { op } else { op.saturating_sub(1) };
+    fails(alloc, &mut blind, count, made && op == 21)
 }
 
 #[test]
 fn failures(rt: HostRuntime) -> Result<(), Fail> {
-    let alloc = rt.alloc();
     for op in 1..=21u64 {
         for made in [false, true] {
-            expect_failure(&rt, alloc, op, made)?;
+            let holds = operation_fails(rt.alloc(), op, made)?;
+            expect(&rt, op, 0, holds);
         }
     }
     Ok(())
 }
 
-// The reading call that fails is that of page 1, the second after attaching; and where no page is
-// changed there is none.
+// The reading call that fails is that of page 1, the second after attaching.
+fn reading_fails(alloc: Global) -> Result<bool, AllocError> {
+    let mut blind = two_pages(alloc, 0, 2, false)?;
+    fails(alloc, &mut blind, 17, false)
+}
+
+fn touches_none(alloc: Global, blind: &mut Blind) -> bool
+    requires { is_attached blind.old.disk ≡ true }
+{
+    let answer = untouched(alloc, blind);
+    answer == Ok(9) && blind.disk.ops() == 0 && blind.disk.faults() == 0
+}
+
+// Where no page is changed no call is made, though the first would fail.
+fn changes_none(alloc: Global) -> Result<bool, AllocError> {
+    let mut blind = two_pages(alloc, 1, 2, false)?;
+    Ok(touches_none(alloc, &mut blind))
+}
+
 #[test]
 fn others(rt: HostRuntime) -> Result<(), Fail> {
-    let alloc = rt.alloc();
-    let mut failed = two_pages(alloc, 0, 2, false)?;
-    assert_eq!(rt; rewritten(alloc, &mut failed), Err(RewriteFault::Disk));
-    assert_eq!(rt; failed.disk.ops(), 17);
-    expect(&rt, alloc, &failed.disk, 32, 0, false)?;
-    let mut same = two_pages(alloc, 1, 2, false)?;
-    assert_eq!(rt; untouched(alloc, &mut same), Ok(9));
-    assert_eq!(rt; (same.disk.ops(), same.disk.faults()), (0, 0));
+    let failed = reading_fails(rt.alloc())?;
+    let same = changes_none(rt.alloc())?;
+    expect(&rt, 17, 0, failed && same);
     Ok(())
 }

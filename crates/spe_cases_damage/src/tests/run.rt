@@ -21,10 +21,16 @@ struct Ended {
     sink: MemSink,
 }
 
+fn push_word(alloc: Global, words: &mut Vec<Text>, word: &str) -> Result<(), AllocError> {
+    let text = Text::new(String::from_str(alloc, word)?);
+    words.push(text)?;
+    Ok(())
+}
+
 fn words_of(alloc: Global, words: &[&str]) -> Result<Words, AllocError> {
     let mut found = Vec::new(alloc);
     for word in words {
-        found.push(Text::new(String::from_str(alloc, word)?))?;
+        push_word(alloc, &mut found, word)?;
     }
     Ok(Words::new(found))
 }
@@ -108,7 +114,7 @@ pub fn expect<R: Threads + Wait + Sync + Abort>(
     end: (u8, &str),
 ) -> Result<(), AllocError> {
     let holds = ends(rt, alloc, words, file, end)?;
-    assert!(rt; holds, "{}", end.1);
+    expect_case(rt, end.1, holds);
     Ok(())
 }
 

@@ -1,10 +1,10 @@
 //! Real files.
 
-ghost use Rattle.std.specs.Prelude.{◌≡◌, ◌<◌, true};
+ghost use Rattle.std.specs.Prelude.{◌≡◌, ◌<◌, false, true};
 
 use spe_disk::{Disk, Failed, FileNo, Scripts, Sink};
 use spe_files::{FileDisk, FileFault, FileScripts, OutSink};
-use std::alloc::{AllocError, Global};
+use std::alloc::{Alloc, AllocError, Global};
 use std::fs::File;
 use std::process::Abort;
 use std::rt::Files;
@@ -16,11 +16,17 @@ fn path(alloc: Global, process: u32, name: &str) -> io::Result<String> {
     Ok(format!(in alloc; "/tmp/spe_cases_files-{process}-{name}")?)
 }
 
+/// Expects that a row of a table holds.
+pub fn expect(rt: &impl Abort, name: &str, row: usize, holds: bool) {
+    assert!(rt; holds, "{name} {row}");
+}
+
 #[test]
 fn no_database(rt: HostRuntime) -> Result<(), Fail> {
     let name = path(rt.alloc(), process::id(rt.process()), "none")?;
     let mut disk = FileDisk::new(&rt, rt.alloc());
-    assert!(rt; disk.attach(name.as_str()) == Ok(false));
+    let absent = disk.attach(name.as_str()) == Ok(false);
+    expect(&rt, "no database", 0, absent);
     Ok(())
 }
 
@@ -56,23 +62,36 @@ fn cuts<D: Disk>(disk: &mut D, length: u64, left: u64) -> bool
     cut == Ok(()) && disk.length(FileNo::Database) == Ok(Some(left))
 }
 
+// Whether it grows, is read and is cut so.
+fn changes<D: Disk>(disk: &mut D) -> bool
+    requires { D.attached disk.old ≡ true }
+{
+    let grown = grows(disk);
+    let read = reads(disk);
+    let kept = cuts(disk, 100, 18);
+    let cut = cuts(disk, 3, 3);
+    grown && read && kept && cut
+}
+
 fn works<R: Files<File = File>>(rt: &R, alloc: Global, name: &str) -> bool {
     let mut disk = FileDisk::new(rt, alloc);
-    let attached = disk.attach(name) == Ok(true);
-    attached
-        && grows(&mut disk)
-        && reads(&mut disk)
-        && cuts(&mut disk, 100, 18)
-        && cuts(&mut disk, 3, 3)
+    let attached = disk.attach(name);
+    changes(&mut disk) && attached == Ok(true)
+}
+
+// The same of a new file of four bytes, which is removed.
+fn database_works<R: Files<File = File>>(rt: &R, alloc: Global, name: &str) -> io::Result<bool> {
+    fs::write(rt, name, b"abcd".as_slice())?;
+    let holds = works(rt, alloc, name);
+    fs::remove_file(rt, name)?;
+    Ok(holds)
 }
 
 #[test]
 fn a_database(rt: HostRuntime) -> Result<(), Fail> {
     let name = path(rt.alloc(), process::id(rt.process()), "some")?;
-    fs::write(&rt, name.as_str(), b"abcd".as_slice())?;
-    let holds = works(&rt, rt.alloc(), name.as_str());
-    fs::remove_file(&rt, name.as_str())?;
-    assert!(rt; holds);
+    let holds = database_works(&rt, rt.alloc(), name.as_str())?;
+    expect(&rt, "a database", 0, holds);
     Ok(())
 }
 
@@ -93,36 +112,63 @@ fn makes<D: Disk>(disk: &mut D, made: u8) -> bool
     disk.make_journals() == Ok(made)
 }
 
+// Whether all journals are made once, and the last is written to.
+fn makes_all<D: Disk>(disk: &mut D) -> bool
+    requires { D.attached disk.old ≡ true }
+{
+    let absent = has_length(disk, 3, None);
+    let first = makes(disk, 16);
+    let second = makes(disk, 0);
+    let empty = has_length(disk, 3, Some(0));
+    let written = disk.write_at(FileNo::Journal(15), 2, b"ab");
+    absent && first && second && empty && written == Ok(())
+}
+
 // Makes the journals of a database, and writes to the last.
 fn makes_journals<R: Files<File = File>>(rt: &R, alloc: Global, name: &str) -> bool {
     let mut disk = FileDisk::new(rt, alloc);
-    let attached = disk.attach(name) == Ok(true);
-    attached
-        && has_length(&mut disk, 3, None)
-        && makes(&mut disk, 16)
-        && makes(&mut disk, 0)
-        && has_length(&mut disk, 3, Some(0))
-        && disk.write_at(FileNo::Journal(15), 2, b"ab") == Ok(())
+    let attached = disk.attach(name);
+    makes_all(&mut disk) && attached == Ok(true)
+}
+
+// Whether they are all there.
+fn has_all<D: Disk>(disk: &mut D) -> bool
+    requires { D.attached disk.old ≡ true }
+{
+    let there = has_length(disk, 15, Some(4));
+    let made = makes(disk, 0);
+    there && made
 }
 
 // What is found of them when the database is opened again.
 fn has_journals<R: Files<File = File>>(rt: &R, alloc: Global, name: &str) -> bool {
     let mut disk = FileDisk::new(rt, alloc);
-    let attached = disk.attach(name) == Ok(true);
-    attached && has_length(&mut disk, 15, Some(4)) && makes(&mut disk, 0)
+    let attached = disk.attach(name);
+    has_all(&mut disk) && attached == Ok(true)
+}
+
+// Makes the journals, finds their folder and them, and removes all.
+fn journals_hold<R: Files<File = File> + Alloc>(
+    rt: &R,
+    alloc: Global,
+    name: &str,
+    folder: &str,
+) -> io::Result<bool> {
+    fs::write(rt, name, b"abcd".as_slice())?;
+    let made = makes_journals(rt, alloc, name);
+    let folds = fs::metadata(rt, folder)?.is_dir();
+    let again = has_journals(rt, alloc, name);
+    fs::remove_dir_all(rt, folder)?;
+    fs::remove_file(rt, name)?;
+    Ok(made && folds && again)
 }
 
 #[test]
 fn journals(rt: HostRuntime) -> Result<(), Fail> {
     let name = path(rt.alloc(), process::id(rt.process()), "hot")?;
     let folder = path(rt.alloc(), process::id(rt.process()), "hot-journal")?;
-    fs::write(&rt, name.as_str(), b"abcd".as_slice())?;
-    let made = makes_journals(&rt, rt.alloc(), name.as_str());
-    let folds = fs::metadata(&rt, folder.as_str())?.is_dir();
-    let again = has_journals(&rt, rt.alloc(), name.as_str());
-    fs::remove_dir_all(&rt, folder.as_str())?;
-    fs::remove_file(&rt, name.as_str())?;
-    assert!(rt; made && folds && again);
+    let holds = journals_hold(&rt, rt.alloc(), name.as_str(), folder.as_str())?;
+    expect(&rt, "journals", 0, holds);
     Ok(())
 }
 
@@ -179,65 +225,69 @@ fn bytes_of(alloc: Global, journal: &Beside) -> Result<Vec<u8>, AllocError> {
     Ok(bytes)
 }
 
-// What a database of some name does with such a journal: whether it attaches, what it says of its
-// fault, and whether journals can be made.
-fn attached<R: Files<File = File>>(
-    rt: &R,
-    alloc: Global,
-    name: &str,
-    journal: &Beside,
-) -> io::Result<(Result<bool, Failed>, Option<FileFault>, Result<u8, Failed>)> {
-    let path = format!(in alloc; "{name}-journal")?;
-    fs::write(rt, path.as_str(), bytes_of(alloc, journal)?.as_slice())?;
+// Whether a database attaches, what it says of its fault, and whether journals can be made.
+type Opened = (Result<bool, Failed>, Option<FileFault>, Result<u8, Failed>);
+
+fn opened<R: Files<File = File>>(rt: &R, alloc: Global, name: &str) -> Opened {
     let mut disk = FileDisk::new(rt, alloc);
     let found = disk.attach(name);
     let fault = disk.first_fault();
-    let made = disk.make_journals();
+    (found, fault, disk.make_journals())
+}
+
+fn write_journal<R: Files<File = File>>(
+    rt: &R,
+    alloc: Global,
+    path: &str,
+    journal: &Beside,
+) -> io::Result<()> {
+    let bytes = bytes_of(alloc, journal)?;
+    fs::write(rt, path, bytes.as_slice())
+}
+
+// What a database of some name does with such a journal.
+fn opened_beside<R: Files<File = File>>(
+    rt: &R,
+    alloc: Global,
+    name: &str,
+    journal: &Beside,
+) -> io::Result<Opened> {
+    let path = format!(in alloc; "{name}-journal")?;
+    write_journal(rt, alloc, path.as_str(), journal)?;
+    let found = opened(rt, alloc, name);
     fs::remove_file(rt, path.as_str())?;
-    Ok((found, fault, made))
+    Ok(found)
 }
 
-fn expect_cold<R: Abort + Files<File = File>>(
+// Makes a database, and expects the same of it beside each of these journals.
+fn expect_each<R: Abort + Files<File = File>>(
     rt: &R,
     alloc: Global,
     name: &str,
-    journal: &Beside,
+    journals: &[Beside],
+    wanted: &Opened,
 ) -> io::Result<()> {
-    let found = attached(rt, alloc, name, journal)?;
-    assert!(rt; found == (Ok(true), None, Err(Failed)));
-    Ok(())
-}
-
-fn expect_hot<R: Abort + Files<File = File>>(
-    rt: &R,
-    alloc: Global,
-    name: &str,
-    journal: &Beside,
-) -> io::Result<()> {
-    let found = attached(rt, alloc, name, journal)?;
-    assert!(rt; found == (Err(Failed), Some(FileFault::StockJournal), Err(Failed)));
-    Ok(())
+    fs::write(rt, name, b"abcd".as_slice())?;
+    for (row, journal) in journals.iter().enumerate() {
+        let found = opened_beside(rt, alloc, name, journal)?;
+        expect(rt, name, row, found == *wanted);
+    }
+    fs::remove_file(rt, name)
 }
 
 #[test]
 fn cold_journals_of_others(rt: HostRuntime) -> Result<(), Fail> {
     let name = path(rt.alloc(), process::id(rt.process()), "cold")?;
-    fs::write(&rt, name.as_str(), b"abcd".as_slice())?;
-    for journal in &COLD {
-        expect_cold(&rt, rt.alloc(), name.as_str(), journal)?;
-    }
-    fs::remove_file(&rt, name.as_str())?;
+    let wanted = (Ok(true), None, Err(Failed));
+    expect_each(&rt, rt.alloc(), name.as_str(), &COLD, &wanted)?;
     Ok(())
 }
 
 #[test]
 fn hot_journals_of_others(rt: HostRuntime) -> Result<(), Fail> {
     let name = path(rt.alloc(), process::id(rt.process()), "other")?;
-    fs::write(&rt, name.as_str(), b"abcd".as_slice())?;
-    for journal in &HOT {
-        expect_hot(&rt, rt.alloc(), name.as_str(), journal)?;
-    }
-    fs::remove_file(&rt, name.as_str())?;
+    let wanted = (Err(Failed), Some(FileFault::StockJournal), Err(Failed));
+    expect_each(&rt, rt.alloc(), name.as_str(), &HOT, &wanted)?;
     Ok(())
 }
 
@@ -251,14 +301,36 @@ fn reads_none<D: Disk>(disk: &mut D) -> bool
 }
 
 // Whether each journal is absent, and the database is there.
+fn has_none<D: Disk>(disk: &mut D) -> bool
+    requires { D.attached disk.old ≡ true }
+{
+    let absent = has_length(disk, 3, None);
+    let unread = reads_none(disk);
+    let length = disk.length(FileNo::Database);
+    absent && unread && length == Ok(Some(4))
+}
+
+// The same where it is opened, and that no fault is told.
 fn has_no_journals<R: Files<File = File>>(rt: &R, alloc: Global, name: &str) -> bool {
     let mut disk = FileDisk::new(rt, alloc);
-    let attached = disk.attach(name) == Ok(true);
-    attached
-        && has_length(&mut disk, 3, None)
-        && reads_none(&mut disk)
-        && disk.length(FileNo::Database) == Ok(Some(4))
-        && disk.first_fault() == None
+    let attached = disk.attach(name);
+    let none = has_none(&mut disk);
+    none && attached == Ok(true) && disk.first_fault() == None
+}
+
+// The same of a database and an empty file in the place of its folder.
+fn is_below<R: Files<File = File>>(
+    rt: &R,
+    alloc: Global,
+    name: &str,
+    journal: &str,
+) -> io::Result<bool> {
+    fs::write(rt, name, b"abcd".as_slice())?;
+    fs::write(rt, journal, b"".as_slice())?;
+    let holds = has_no_journals(rt, alloc, name);
+    fs::remove_file(rt, journal)?;
+    fs::remove_file(rt, name)?;
+    Ok(holds)
 }
 
 // Over a cold journal of another program each journal of this one is absent.
@@ -266,12 +338,8 @@ fn has_no_journals<R: Files<File = File>>(rt: &R, alloc: Global, name: &str) -> 
 fn no_journal_below_a_file(rt: HostRuntime) -> Result<(), Fail> {
     let name = path(rt.alloc(), process::id(rt.process()), "below")?;
     let journal = path(rt.alloc(), process::id(rt.process()), "below-journal")?;
-    fs::write(&rt, name.as_str(), b"abcd".as_slice())?;
-    fs::write(&rt, journal.as_str(), b"".as_slice())?;
-    let holds = has_no_journals(&rt, rt.alloc(), name.as_str());
-    fs::remove_file(&rt, journal.as_str())?;
-    fs::remove_file(&rt, name.as_str())?;
-    assert!(rt; holds);
+    let holds = is_below(&rt, rt.alloc(), name.as_str(), journal.as_str())?;
+    expect(&rt, "below a file", 0, holds);
     Ok(())
 }
 
@@ -285,14 +353,26 @@ fn names<R: Files<File = File>>(
     Ok(found.as_str() == path)
 }
 
+// Whether a folder is refused, and for which reason.
+fn refuses_folder<R: Files<File = File>>(disk: &mut FileDisk<'_, R>) -> bool
+    requires { disk.old.attached ≡ false }
+{
+    let refused = disk.attach("/tmp");
+    refused == Err(Failed) && disk.first_fault() == Some(FileFault::NotPlain)
+}
+
+fn names_both<R: Files<File = File>>(disk: &FileDisk<'_, R>) -> Result<bool, AllocError> {
+    let plain = names(disk, FileFault::NotPlain, "/tmp")?;
+    let stock = names(disk, FileFault::StockJournal, "/tmp-journal")?;
+    Ok(plain && stock)
+}
+
 #[test]
 fn a_folder_is_no_database(rt: HostRuntime) -> Result<(), Fail> {
     let mut disk = FileDisk::new(&rt, rt.alloc());
-    let refused = disk.attach("/tmp") == Err(Failed);
-    let plain = disk.first_fault() == Some(FileFault::NotPlain);
-    let named = names(&disk, FileFault::NotPlain, "/tmp")?
-        && names(&disk, FileFault::StockJournal, "/tmp-journal")?;
-    assert!(rt; refused && plain && named);
+    let refused = refuses_folder(&mut disk);
+    let named = names_both(&disk)?;
+    expect(&rt, "a folder", 0, refused && named);
     Ok(())
 }
 
@@ -338,7 +418,7 @@ fn scripts(rt: HostRuntime) -> Result<(), Fail> {
     let name = path(rt.alloc(), process::id(rt.process()), "script")?;
     let read = are_read(&rt, rt.alloc(), name.as_str())?;
     fs::remove_file(&rt, name.as_str())?;
-    assert!(rt; read);
+    expect(&rt, "scripts", 0, read);
     Ok(())
 }
 
@@ -355,5 +435,5 @@ fn puts(rt: HostRuntime) {
     let head = sink.head().starts_with(b"put\n\0");
     let second = is_put(&mut sink, &[b'.'; 70]) && is_put(&mut sink, b"\n");
     let later = sink.head().len() == 64 && sink.head().ends_with(b"....");
-    assert!(rt; first && head && second && later);
+    expect(&rt, "puts", 0, first && head && second && later);
 }

@@ -3,6 +3,7 @@
 ghost use Rattle.std.specs.Prelude.{◌≡◌, ◌≤◌, IfOk, None, OnOk, length};
 ghost use Rattle.spe_space.specs.View.{map_refusal};
 
+use super::reserved::Reserved;
 use spe_insert::{insert, lay_lower};
 use spe_model::{Cells, Kind, PageCells};
 use spe_search::find;
@@ -120,31 +121,53 @@ impl Table {
     }
 }
 
-// An empty leaf on a new page, beside page 1.
-pub(crate) fn start(alloc: Global, space: &mut MapSpace) -> Result<u32, TreeFault>
-    requires { map_refusal space.old ≡ None }
-    ensures { OnOk result (map_refusal space.new ≡ None) }
+// Makes a page an empty leaf.
+pub(crate) fn lay_empty<S: PageSpace>(
+    alloc: Global,
+    space: &mut S,
+    page: u32,
+) -> Result<(), TreeFault>
+    requires { S.Pages.refusal space.old ≡ None }
+    ensures { OnOk result (S.Pages.refusal space.new ≡ None) }
 {
-    let root = match space.alloc() {
-        Ok(root) => root,
-        Err(fault) => return Err(TreeFault::Space(fault)),
-    };
     let mut buf = vec![in alloc; 0u8; space.page_size() as usize]?;
+    // A page has 480 usable bytes at least.
+    let _usable = space.usable();
     let leaf = PageCells {
         kind: Kind::TableLeaf,
         cells: Cells::new(Vec::new(alloc)),
         right: 0,
     };
-    match lay_lower(space, root, &leaf, &mut buf) {
-        Ok(()) => Ok(root),
+    match lay_lower(space, page, &leaf, &mut buf) {
+        Ok(()) => Ok(()),
         Err(fault) => Err(TreeFault::Space(fault)),
     }
 }
 
+// An empty leaf on a new page, beside page 1.
+pub(crate) fn start<S: PageSpace>(alloc: Global, space: &mut S) -> Result<u32, TreeFault>
+    requires { S.Pages.refusal space.old ≡ None }
+    ensures { OnOk result (S.Pages.refusal space.new ≡ None) }
+{
+    let root = match space.alloc() {
+        Ok(root) => root,
+        Err(fault) => return Err(TreeFault::Space(fault)),
+    };
+    match lay_empty(alloc, space, root) {
+        Ok(()) => Ok(root),
+        Err(fault) => Err(fault),
+    }
+}
+
 // Puts all rows, and answers how many were not there.
-fn put_each(alloc: Global, space: &mut MapSpace, root: u32, table: &Table) -> Result<u32, TreeFault>
-    requires { map_refusal space.old ≡ None }
-    ensures { OnOk result (map_refusal space.new ≡ None) }
+fn put_each<S: PageSpace>(
+    alloc: Global,
+    space: &mut S,
+    root: u32,
+    table: &Table,
+) -> Result<u32, TreeFault>
+    requires { S.Pages.refusal space.old ≡ None }
+    ensures { OnOk result (S.Pages.refusal space.new ≡ None) }
 {
     let mut put = 0u32;
     for turn in 0..table.rows.min(10000) {
@@ -162,13 +185,13 @@ fn put_each(alloc: Global, space: &mut MapSpace, root: u32, table: &Table) -> Re
 }
 
 // How many rows have their payload.
-fn find_each(
+fn find_each<S: PageSpace>(
     alloc: Global,
-    space: &mut MapSpace,
+    space: &mut S,
     root: u32,
     table: &Table,
 ) -> Result<u32, TreeFault>
-    requires { map_refusal space.old ≡ None }
+    requires { S.Pages.refusal space.old ≡ None }
 {
     let mut found = 0u32;
     for turn in 0..table.rows.min(10000) {
@@ -187,8 +210,8 @@ fn find_each(
     Ok(found)
 }
 
-fn rows_of(alloc: Global, space: &mut MapSpace, table: &Table) -> Result<Answer, TreeFault>
-    requires { map_refusal space.old ≡ None }
+fn rows_of<S: PageSpace>(alloc: Global, space: &mut S, table: &Table) -> Result<Answer, TreeFault>
+    requires { S.Pages.refusal space.old ≡ None }
 {
     let root = match start(alloc, space) {
         Ok(root) => root,
@@ -227,21 +250,41 @@ fn answer_of(alloc: Global, table: &Table) -> Result<Answer, AllocError> {
     }
 }
 
-fn expect_table(rt: &impl Abort, alloc: Global, table: &Table) -> Result<(), AllocError> {
-    let answer = answer_of(alloc, table)?;
+// The same on pages that have reserved bytes.
+fn reserved_answer_of(alloc: Global, table: &Table) -> Result<Answer, AllocError> {
+    let mut space = Reserved {
+        space: space_of(alloc, table.page_size)?,
+    };
+    match rows_of(alloc, &mut space, table) {
+        Ok(answer) => Ok(answer),
+        Err(_) => Ok(Answer::Other),
+    }
+}
+
+// Stops the test unless all rows were put, were there when each was put again, and are found.
+fn expect_all(rt: &impl Abort, table: &Table, answer: Answer) {
     let all = Answer::Rows {
         put: table.rows,
         again: 0,
         found: table.rows,
     };
     assert_eq!(rt; answer, all, "{}", table.name);
-    Ok(())
 }
 
 #[test]
 fn tables(rt: HostRuntime) -> Result<(), Fail> {
     for table in &TABLES {
-        expect_table(&rt, rt.alloc(), table)?;
+        let answer = answer_of(rt.alloc(), table)?;
+        expect_all(&rt, table, answer);
+    }
+    Ok(())
+}
+
+#[test]
+fn tables_on_pages_with_reserved_bytes(rt: HostRuntime) -> Result<(), Fail> {
+    for table in &TABLES {
+        let answer = reserved_answer_of(rt.alloc(), table)?;
+        expect_all(&rt, table, answer);
     }
     Ok(())
 }

@@ -6,6 +6,7 @@ ghost use Rattle.spe_disk.specs.Memory.{is_attached};
 use spe_disk::{Faults, FileNo, MemDisk};
 use spe_model::Numbers;
 use std::alloc::{AllocError, Global};
+use std::process::Abort;
 
 /// Bytes from a place on.
 pub type Patch = (usize, &'static [u8]);
@@ -74,4 +75,9 @@ pub fn disk_of(alloc: Global, file: &[u8], op: u64, made: bool) -> Result<MemDis
     let mut disk = MemDisk::new(alloc, 1 << 17, 64, faults)?;
     let _ = disk.load(FileNo::Database, file);
     Ok(disk)
+}
+
+/// Expects that a step of a case holds.
+pub fn expect(rt: &impl Abort, name: &str, step: u64, holds: bool) {
+    assert!(rt; holds, "{name} {step}");
 }

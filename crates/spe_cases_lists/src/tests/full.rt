@@ -7,7 +7,6 @@ use spe_convert::{ConvertFault, prepare};
 use spe_disk::{Disk, Failed, FileNo};
 use spe_model::Recovered;
 use std::alloc::Global;
-use std::test::Fail;
 
 // A disk whose files are all zeros, however long they are, and how many operations were made on it.
 #[derive(Drop)]
@@ -85,11 +84,8 @@ fn answer(alloc: Global, lists: u32) -> (Result<u32, ConvertFault>, bool) {
 }
 
 #[test]
-fn full_file(rt: HostRuntime) -> Result<(), Fail> {
-    let alloc = rt.alloc();
-    let full = answer(alloc, 2);
-    assert_eq!(rt; full, (Err(ConvertFault::Full { pages: 16382 }), false));
-    let room = answer(alloc, 1);
-    assert_eq!(rt; room, (Ok(16384), true));
-    Ok(())
+fn full_file(rt: HostRuntime) {
+    let full = answer(rt.alloc(), 2) == (Err(ConvertFault::Full { pages: 16382 }), false);
+    let room = answer(rt.alloc(), 1) == (Ok(16384), true);
+    assert!(rt; full && room);
 }

@@ -1,12 +1,12 @@
 //! Free lists of files in memory that are put in server form: the bytes, stops and refusals.
 
-ghost use Rattle.std.specs.Prelude.{◌≡◌, ◌≤◌, false, true};
+ghost use Rattle.std.specs.Prelude.{◌≡◌, ◌≤◌, false, true, IfOk};
 ghost use Rattle.spe_disk.specs.Memory.{is_attached};
 
-use super::files::{Patch, disk_of, file_of, lay_all, lay_numbers};
-use super::release::{has_file, recovered};
+use super::files::{Patch, disk_of, expect, file_of, lay_all, lay_numbers};
+use super::release::{has_file, leaves};
 use spe_convert::{ConvertFault, prepare};
-use spe_disk::{Disk, MemDisk, stopped_at};
+use spe_disk::{Disk, MemDisk};
 use spe_recover::{Want, recover};
 use std::alloc::{AllocError, Global};
 use std::process::Abort;
@@ -219,15 +219,8 @@ fn holds(
     ops: u64,
     bytes: usize,
 ) -> Result<bool, AllocError> {
-    let mut left = stopped_at(alloc, disk, ops as usize, bytes)?;
-    let found = recovered(alloc, &mut left).is_ok();
     let wanted = wanted(alloc, case, ops)?;
-    let same = has_file(alloc, &mut left, &wanted)?;
-    Ok(found && same)
-}
-
-fn expect(rt: &impl Abort, name: &str, step: u64, holds: bool) {
-    assert!(rt; holds, "{name} {step}");
+    leaves(alloc, disk, ops as usize, bytes, &wanted)
 }
 
 // All but the last bytes of the operation after each number of them.
@@ -246,13 +239,27 @@ fn expect_stops(
     Ok(())
 }
 
-fn expect_case(rt: &impl Abort, alloc: Global, case: &Case) -> Result<(), AllocError> {
-    let file = file_of(alloc, case.pages, case.before)?;
-    let mut disk = disk_of(alloc, &file, 0, false)?;
-    let right = match prepared(alloc, &mut disk, case.lists.clamp(1, 16)) {
+// A disk with a file of so many pages.
+fn disk_for(alloc: Global, pages: usize, patches: &[Patch]) -> Result<MemDisk, AllocError>
+    ensures { IfOk result (λ d. is_attached d ≡ false) }
+{
+    let file = file_of(alloc, pages, patches)?;
+    disk_of(alloc, &file, 0, false)
+}
+
+// Whether the lists of a case are made, so many pages are told, and so many operations made.
+fn makes(alloc: Global, disk: &mut MemDisk, case: &Case) -> bool
+    requires { is_attached disk.old ≡ false }
+{
+    match prepared(alloc, disk, case.lists.clamp(1, 16)) {
         Ok(count) => count as usize == case.count && disk.ops() == case.ops,
         Err(_) => false,
-    };
+    }
+}
+
+fn expect_case(rt: &impl Abort, alloc: Global, case: &Case) -> Result<(), AllocError> {
+    let mut disk = disk_for(alloc, case.pages, case.before)?;
+    let right = makes(alloc, &mut disk, case);
     expect(rt, case.name, 0, right);
     expect_stops(rt, alloc, case, &disk)
 }
@@ -265,11 +272,17 @@ fn prepared_files(rt: HostRuntime) -> Result<(), Fail> {
     Ok(())
 }
 
+// Whether this is answered, and no operation made.
+fn refuses(alloc: Global, disk: &mut MemDisk, fault: ConvertFault) -> bool
+    requires { is_attached disk.old ≡ false }
+{
+    let answer = prepared(alloc, disk, 2);
+    answer == Err(fault) && disk.ops() == 0
+}
+
 fn is_refused(alloc: Global, patches: &[Patch], fault: ConvertFault) -> Result<bool, AllocError> {
-    let file = file_of(alloc, 5, patches)?;
-    let mut disk = disk_of(alloc, &file, 0, false)?;
-    let answer = prepared(alloc, &mut disk, 2);
-    Ok(answer == Err(fault) && disk.ops() == 0)
+    let mut disk = disk_for(alloc, 5, patches)?;
+    Ok(refuses(alloc, &mut disk, fault))
 }
 
 #[test]
@@ -281,20 +294,37 @@ fn refused_files(rt: HostRuntime) -> Result<(), Fail> {
     Ok(())
 }
 
-fn moves_on(alloc: Global) -> Result<bool, AllocError> {
+// A disk whose trunk lists 122 pages.
+fn long_disk(alloc: Global) -> Result<MemDisk, AllocError>
+    ensures { IfOk result (λ d. is_attached d ≡ false) }
+{
     let mut file = file_of(alloc, 125, &LONG)?;
     lay_numbers(&mut file, 1032, 4, 126);
-    let mut disk = disk_of(alloc, &file, 0, false)?;
-    let answer = prepared(alloc, &mut disk, 1);
+    disk_of(alloc, &file, 0, false)
+}
+
+// Whether the file of a disk is such a list as one list.
+fn has_long(alloc: Global, disk: &mut MemDisk) -> Result<bool, AllocError>
+    requires { is_attached disk.old ≡ true }
+{
     let mut wanted = file_of(alloc, 125, &LONG_AFTER)?;
     lay_numbers(&mut wanted, 63496, 5, 125);
-    let same = has_file(alloc, &mut disk, &wanted)?;
-    Ok(answer == Ok(125) && disk.ops() == 26 && same)
+    has_file(alloc, disk, &wanted)
+}
+
+fn moves_on(alloc: Global, disk: &mut MemDisk) -> Result<bool, AllocError>
+    requires { is_attached disk.old ≡ false }
+{
+    let answer = prepared(alloc, disk, 1);
+    let counted = disk.ops() == 26;
+    let same = has_long(alloc, disk)?;
+    Ok(answer == Ok(125) && counted && same)
 }
 
 #[test]
 fn moved_trunk(rt: HostRuntime) -> Result<(), Fail> {
-    let right = moves_on(rt.alloc())?;
+    let mut disk = long_disk(rt.alloc())?;
+    let right = moves_on(rt.alloc(), &mut disk)?;
     expect(&rt, "long list", 0, right);
     Ok(())
 }

@@ -3,16 +3,15 @@
 ghost use Rattle.std.specs.Prelude.{◌≡◌, false};
 ghost use Rattle.spe_disk.specs.Memory.{is_attached};
 
-use super::files::{Patch, disk_of, file_of};
+use super::files::{Patch, disk_of, expect, file_of};
 use spe_convert::{ConvertFault, read_free};
 use spe_disk::{Disk, MemDisk};
 use spe_recover::{Want, recover};
 use std::alloc::{AllocError, Global};
-use std::process::Abort;
 use std::test::Fail;
 
 // What is read.
-#[derive(Clone, Copy, Debug, PartialEq, Eq)]
+#[derive(Clone, Copy, PartialEq, Eq)]
 enum Read {
     // So many pages, the first and the last of them, and their sum.
     Free(usize, u32, u32, u64),
@@ -163,18 +162,17 @@ fn read_of(alloc: Global, disk: &mut MemDisk) -> Result<Read, AllocError>
     })
 }
 
-fn expect_case(rt: &impl Abort, alloc: Global, case: &Case) -> Result<(), AllocError> {
+fn holds(alloc: Global, case: &Case) -> Result<bool, AllocError> {
     let file = file_of(alloc, case.pages, case.bytes)?;
     let mut disk = disk_of(alloc, &file, 0, false)?;
-    let read = read_of(alloc, &mut disk)?;
-    assert_eq!(rt; read, case.read, "{}", case.name);
-    Ok(())
+    Ok(read_of(alloc, &mut disk)? == case.read)
 }
 
 #[test]
 fn free_pages(rt: HostRuntime) -> Result<(), Fail> {
     for case in &CASES {
-        expect_case(&rt, rt.alloc(), case)?;
+        let holds = holds(rt.alloc(), case)?;
+        expect(&rt, case.name, 0, holds);
     }
     Ok(())
 }

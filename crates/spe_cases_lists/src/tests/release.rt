@@ -1,9 +1,9 @@
 //! Free lists of files in memory that are put back in stock form: the bytes, stops and failures.
 
-ghost use Rattle.std.specs.Prelude.{◌≡◌, false, true};
+ghost use Rattle.std.specs.Prelude.{◌≡◌, false, true, IfOk};
 ghost use Rattle.spe_disk.specs.Memory.{is_attached};
 
-use super::files::{Patch, disk_of, file_of, lay_all};
+use super::files::{Patch, disk_of, expect, file_of, lay_all};
 use spe_convert::{ConvertFault, release};
 use spe_disk::{Disk, FileNo, MemDisk, stopped_at};
 use spe_model::{RecoverFault, Recovered};
@@ -81,8 +81,17 @@ fn after(alloc: Global, case: &Case) -> Result<Vec<u8>, AllocError> {
     Ok(file)
 }
 
+// The file before, or after.
+fn file_for(alloc: Global, case: &Case, new: bool) -> Result<Vec<u8>, AllocError> {
+    if new {
+        after(alloc, case)
+    } else {
+        before(alloc, case)
+    }
+}
+
 // Attaches a disk and recovers it.
-pub fn recovered(alloc: Global, disk: &mut MemDisk) -> Result<Recovered, RecoverFault>
+fn recovered(alloc: Global, disk: &mut MemDisk) -> Result<Recovered, RecoverFault>
     requires { is_attached disk.old ≡ false }
     ensures { is_attached disk.new ≡ true }
 {
@@ -114,29 +123,37 @@ pub fn has_file(alloc: Global, disk: &mut MemDisk, wanted: &[u8]) -> Result<bool
     Ok(read.is_ok() && found.as_slice() == wanted)
 }
 
-// What a stop leaves after so many operations and so many bytes of the next one is recovered as the old
-// file or the new one.
+// Whether a disk is recovered with this file.
+fn comes_back(alloc: Global, disk: &mut MemDisk, wanted: &[u8]) -> Result<bool, AllocError>
+    requires { is_attached disk.old ≡ false }
+{
+    let found = recovered(alloc, disk).is_ok();
+    let same = has_file(alloc, disk, wanted)?;
+    Ok(found && same)
+}
+
+// The same of what it holds after so many operations and so many bytes of the next one.
+pub fn leaves(
+    alloc: Global,
+    disk: &MemDisk,
+    ops: usize,
+    bytes: usize,
+    wanted: &[u8],
+) -> Result<bool, AllocError> {
+    let mut left = stopped_at(alloc, disk, ops, bytes)?;
+    comes_back(alloc, &mut left, wanted)
+}
+
+// Whether that is the old file of a case, or the new one.
 fn holds(
     alloc: Global,
     disk: &MemDisk,
     case: &Case,
-    ops: usize,
-    bytes: usize,
+    stop: (usize, usize),
     new: bool,
 ) -> Result<bool, AllocError> {
-    let mut left = stopped_at(alloc, disk, ops, bytes)?;
-    let found = recovered(alloc, &mut left).is_ok();
-    let wanted = if new {
-        after(alloc, case)?
-    } else {
-        before(alloc, case)?
-    };
-    let same = has_file(alloc, &mut left, &wanted)?;
-    Ok(found && same)
-}
-
-fn expect(rt: &impl Abort, case: &Case, step: u64, holds: bool) {
-    assert!(rt; holds, "{} {step}", case.name);
+    let wanted = file_for(alloc, case, new)?;
+    leaves(alloc, disk, stop.0, stop.1, &wanted)
 }
 
 // After so many of the operations all but one of the bytes of the next are these: sixteen journals are
@@ -160,18 +177,33 @@ fn expect_stops(
 ) -> Result<(), AllocError> {
     for (ops, last) in &STOPS {
         for bytes in [0, 1, *last] {
-            let right = holds(alloc, disk, case, *ops, bytes, *ops == 22)?;
-            expect(rt, case, *ops as u64, right);
+            let right = holds(alloc, disk, case, (*ops, bytes), *ops == 22)?;
+            expect(rt, case.name, *ops as u64, right);
         }
     }
     Ok(())
 }
 
-fn expect_case(rt: &impl Abort, alloc: Global, case: &Case) -> Result<(), AllocError> {
+// A disk with the file of a case, of which this operation fails.
+fn disk_for(alloc: Global, case: &Case, op: u64, made: bool) -> Result<MemDisk, AllocError>
+    ensures { IfOk result (λ d. is_attached d ≡ false) }
+{
     let file = before(alloc, case)?;
-    let mut disk = disk_of(alloc, &file, 0, false)?;
-    let answer = released(alloc, &mut disk);
-    assert_eq!(rt; (answer, disk.ops()), (Ok(case.free), 22), "{}", case.name);
+    disk_of(alloc, &file, op, made)
+}
+
+// Whether so many pages are released, by so many operations as the stops are over.
+fn releases(alloc: Global, disk: &mut MemDisk, free: u32) -> bool
+    requires { is_attached disk.old ≡ false }
+{
+    let answer = released(alloc, disk);
+    answer == Ok(free) && disk.ops() == 22
+}
+
+fn expect_case(rt: &impl Abort, alloc: Global, case: &Case) -> Result<(), AllocError> {
+    let mut disk = disk_for(alloc, case, 0, false)?;
+    let right = releases(alloc, &mut disk, case.free);
+    expect(rt, case.name, 0, right);
     expect_stops(rt, alloc, case, &disk)
 }
 
@@ -184,29 +216,27 @@ fn released_files(rt: HostRuntime) -> Result<(), Fail> {
 }
 
 // An operation that fails, made and not made: only the cut that was made turns the pages.
-fn expect_failure(
-    rt: &impl Abort,
-    alloc: Global,
-    case: &Case,
-    op: u64,
-    made: bool,
-) -> Result<(), AllocError> {
-    let file = before(alloc, case)?;
-    let mut disk = disk_of(alloc, &file, op, made)?;
+fn fails(alloc: Global, case: &Case, op: u64, made: bool) -> Result<bool, AllocError> {
+    let mut disk = disk_for(alloc, case, op, made)?;
     let answer = released(alloc, &mut disk);
-    let right = holds(alloc, &disk, case, 64, 0, made && op == 22)?;
-    expect(rt, case, op, answer == Err(ConvertFault::Disk) && right);
+    let back = holds(alloc, &disk, case, (64, 0), made && op == 22)?;
+    Ok(answer == Err(ConvertFault::Disk) && back)
+}
+
+fn expect_failures(rt: &impl Abort, alloc: Global, case: &Case) -> Result<(), AllocError> {
+    for op in 1..=22u64 {
+        for made in [false, true] {
+            let right = fails(alloc, case, op, made)?;
+            expect(rt, case.name, op, right);
+        }
+    }
     Ok(())
 }
 
 #[test]
 fn failures(rt: HostRuntime) -> Result<(), Fail> {
     for case in &CASES {
-        for op in 1..=22u64 {
-            for made in [false, true] {
-                expect_failure(&rt, rt.alloc(), case, op, made)?;
-            }
-        }
+        expect_failures(&rt, rt.alloc(), case)?;
     }
     Ok(())
 }

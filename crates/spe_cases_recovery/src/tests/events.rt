@@ -27,10 +27,15 @@ pub enum Filling {
     Short,
 }
 
-/// An event of transaction 0, or of the one named.
+/// An event of one transaction, a stop, or an operation of recovery.
 #[derive(Clone, Copy)]
 pub enum Move {
-    Begin(u8),
+    Begin,
+    /// It becomes a reader of a lock.
+    Share(u32),
+    /// It becomes the writer of a lock.
+    Lock(u32),
+    Release(u32),
     Read(u32),
     Open,
     Journal(u32),
@@ -47,7 +52,7 @@ pub enum Move {
 }
 
 /// What was to come next at a stop: the journal's head, a record of page 2, a row on page 2, its old
-/// bytes, an operation of recovery, a beginning, or another stop.
+/// bytes, an operation of recovery, a lock, or another stop.
 #[derive(Clone, Copy)]
 pub enum Next {
     Open,
@@ -55,7 +60,7 @@ pub enum Next {
     Row,
     Undo,
     Recover,
-    Begin,
+    Lock,
     Stop,
 }
 
@@ -83,18 +88,18 @@ pub fn page_of(alloc: Global, filling: Filling) -> Result<Bytes, AllocError> {
     Ok(Bytes::new(page))
 }
 
-fn next_of(alloc: Global, next: Next) -> Result<Event, AllocError> {
+fn next_of(alloc: Global, id: u8, next: Next) -> Result<Event, AllocError> {
     Ok(match next {
-        Next::Open => Event::OpenJournal { id: 0 },
-        Next::Record => Event::Journal { id: 0, page: 2 },
+        Next::Open => Event::OpenJournal { id },
+        Next::Record => Event::Journal { id, page: 2 },
         Next::Row => Event::WriteBytes {
-            id: 0,
+            id,
             page: 2,
             bytes: page_of(alloc, Filling::Row)?,
         },
-        Next::Undo => Event::UndoBytes { id: 0 },
+        Next::Undo => Event::UndoBytes { id },
         Next::Recover => Event::RecoverOp,
-        Next::Begin => Event::Begin { id: 0 },
+        Next::Lock => Event::GrantWrite { id, lock: 4 },
         Next::Stop => Event::Stop {
             next: None,
             bytes: 0,
@@ -104,38 +109,38 @@ fn next_of(alloc: Global, next: Next) -> Result<Event, AllocError> {
 
 fn never(which: u8) -> Event {
     match which {
-        0 => Event::GrantRead { id: 0, lock: 2 },
-        1 => Event::GrantWrite { id: 0, lock: 2 },
-        2 => Event::Release { id: 0, lock: 2 },
-        3 => Event::EnterReadOnly { reader: 1 },
-        4 => Event::FixSnapshot { reader: 1 },
-        5 => Event::ReadAt { reader: 1, page: 2 },
-        6 => Event::Leave { reader: 1 },
+        0 => Event::EnterReadOnly { reader: 1 },
+        1 => Event::FixSnapshot { reader: 1 },
+        2 => Event::ReadAt { reader: 1, page: 2 },
+        3 => Event::Leave { reader: 1 },
         _ => Event::Trim { floor: 0 },
     }
 }
 
-/// The event.
-pub fn event_of(alloc: Global, short: Move) -> Result<Event, AllocError> {
+/// The event, as one of a transaction of this number where it is a transaction's.
+pub fn event_of(alloc: Global, id: u8, short: Move) -> Result<Event, AllocError> {
     Ok(match short {
-        Move::Begin(id) => Event::Begin { id },
-        Move::Read(page) => Event::Read { id: 0, page },
-        Move::Open => Event::OpenJournal { id: 0 },
-        Move::Journal(page) => Event::Journal { id: 0, page },
+        Move::Begin => Event::Begin { id },
+        Move::Share(lock) => Event::GrantRead { id, lock },
+        Move::Lock(lock) => Event::GrantWrite { id, lock },
+        Move::Release(lock) => Event::Release { id, lock },
+        Move::Read(page) => Event::Read { id, page },
+        Move::Open => Event::OpenJournal { id },
+        Move::Journal(page) => Event::Journal { id, page },
         Move::Write(page, filling) => Event::WriteBytes {
-            id: 0,
+            id,
             page,
             bytes: page_of(alloc, filling)?,
         },
-        Move::Commit => Event::CommitCut { id: 0 },
-        Move::Undo => Event::UndoBytes { id: 0 },
-        Move::Roll => Event::RollCut { id: 0 },
+        Move::Commit => Event::CommitCut { id },
+        Move::Undo => Event::UndoBytes { id },
+        Move::Roll => Event::RollCut { id },
         Move::Stop => Event::Stop {
             next: None,
             bytes: 0,
         },
         Move::StopIn(next, bytes) => Event::Stop {
-            next: Some(Boxed::new(alloc, next_of(alloc, next)?)?),
+            next: Some(Boxed::new(alloc, next_of(alloc, id, next)?)?),
             bytes,
         },
         Move::Recover => Event::RecoverOp,

@@ -4,7 +4,8 @@ ghost use Rattle.std.specs.Prelude.{◌≡◌};
 
 use super::events::Filling::{Old, OtherFront, Pages, Row, Short, TooMany, Uncounted, Unread};
 use super::events::Move::{
-    Begin, Commit, Journal, Never, Open, Read, Recover, Roll, Stop, StopIn, Undo, Write,
+    Begin, Commit, Journal, Lock, Never, Open, Read, Recover, Release, Roll, Share, Stop, StopIn,
+    Undo, Write,
 };
 use super::events::{Filling, Move, Next, event_of, page_of};
 use super::files::{PAGE, lay, two};
@@ -16,32 +17,40 @@ use std::test::Fail;
 
 /// A page that is not as it was at first: its number, what was written to it, and how many of the
 /// first bytes of that.
-type Change = (u32, Filling, usize);
+pub type Change = (u32, Filling, usize);
 
-/// Events, for each whether it is made (`m`) or refused (`r`), and then how many commits there are,
+/// Events of transaction 0, for each whether it is made (`m`) or refused (`r`), and then how many commits there are,
 /// how many bytes journal 0 has, and what of the file has changed.
 type Run = (&'static [Move], &'static str, u64, usize, &'static [Change]);
 
-static RUNS: [Run; 48] = [
+static RUNS: [Run; 52] = [
     // a row is committed
     (
-        &[Begin(0), Read(2), Open, Journal(2), Write(2, Row), Commit],
-        "mmmmmm",
+        &[
+            Begin,
+            Lock(2),
+            Read(2),
+            Open,
+            Journal(2),
+            Write(2, Row),
+            Commit,
+        ],
+        "mmmmmmm",
         1,
         0,
         &[(2, Row, 512)],
     ),
     // stopped within the head: as it then is, and as it is recovered; so with nothing of it written
-    (&[Begin(0), StopIn(Next::Open, 300)], "mm", 0, 300, &[]),
+    (&[Begin, StopIn(Next::Open, 300)], "mm", 0, 300, &[]),
     (
-        &[Begin(0), StopIn(Next::Open, 300), Recover, Recover, Recover],
+        &[Begin, StopIn(Next::Open, 300), Recover, Recover, Recover],
         "mmmmr",
         0,
         0,
         &[],
     ),
     (
-        &[Begin(0), StopIn(Next::Open, 0), Recover, Recover],
+        &[Begin, StopIn(Next::Open, 0), Recover, Recover],
         "mmmr",
         0,
         0,
@@ -49,32 +58,18 @@ static RUNS: [Run; 48] = [
     ),
     // within the record, and with all of it written
     (
-        &[Begin(0), Open, StopIn(Next::Record, 519)],
-        "mmm",
+        &[Begin, Lock(2), Open, StopIn(Next::Record, 519)],
+        "mmmm",
         0,
         1031,
         &[],
     ),
     (
         &[
-            Begin(0),
+            Begin,
+            Lock(2),
             Open,
             StopIn(Next::Record, 519),
-            Recover,
-            Recover,
-            Recover,
-        ],
-        "mmmmmr",
-        0,
-        0,
-        &[],
-    ),
-    (
-        &[
-            Begin(0),
-            Open,
-            StopIn(Next::Record, 520),
-            Recover,
             Recover,
             Recover,
             Recover,
@@ -84,20 +79,12 @@ static RUNS: [Run; 48] = [
         0,
         &[],
     ),
-    // within the page, before the cut, and after it
-    (
-        &[Begin(0), Open, Journal(2), StopIn(Next::Row, 100)],
-        "mmmm",
-        0,
-        1032,
-        &[(2, Row, 100)],
-    ),
     (
         &[
-            Begin(0),
+            Begin,
+            Lock(2),
             Open,
-            Journal(2),
-            StopIn(Next::Row, 100),
+            StopIn(Next::Record, 520),
             Recover,
             Recover,
             Recover,
@@ -108,13 +95,21 @@ static RUNS: [Run; 48] = [
         0,
         &[],
     ),
+    // within the page, before the cut, and after it
+    (
+        &[Begin, Lock(2), Open, Journal(2), StopIn(Next::Row, 100)],
+        "mmmmm",
+        0,
+        1032,
+        &[(2, Row, 100)],
+    ),
     (
         &[
-            Begin(0),
+            Begin,
+            Lock(2),
             Open,
             Journal(2),
-            Write(2, Row),
-            Stop,
+            StopIn(Next::Row, 100),
             Recover,
             Recover,
             Recover,
@@ -127,57 +122,12 @@ static RUNS: [Run; 48] = [
     ),
     (
         &[
-            Begin(0),
-            Open,
-            Journal(2),
-            Write(2, Row),
-            Commit,
-            Stop,
-            Recover,
-            Recover,
-        ],
-        "mmmmmmmr",
-        1,
-        0,
-        &[(2, Row, 512)],
-    ),
-    // within the write of an undo
-    (
-        &[
-            Begin(0),
-            Open,
-            Journal(2),
-            Write(2, Row),
-            StopIn(Next::Undo, 50),
-        ],
-        "mmmmm",
-        0,
-        1032,
-        &[(2, Row, 512), (2, Old, 50)],
-    ),
-    // within recovery, whose next operation is a write, and a cut
-    (
-        &[
-            Begin(0),
+            Begin,
+            Lock(2),
             Open,
             Journal(2),
             Write(2, Row),
             Stop,
-            StopIn(Next::Recover, 7),
-        ],
-        "mmmmmm",
-        0,
-        1032,
-        &[(2, Row, 512), (2, Old, 7)],
-    ),
-    (
-        &[
-            Begin(0),
-            Open,
-            Journal(2),
-            Write(2, Row),
-            Stop,
-            StopIn(Next::Recover, 7),
             Recover,
             Recover,
             Recover,
@@ -189,7 +139,74 @@ static RUNS: [Run; 48] = [
         &[],
     ),
     (
-        &[Begin(0), StopIn(Next::Open, 300), StopIn(Next::Recover, 1)],
+        &[
+            Begin,
+            Lock(2),
+            Open,
+            Journal(2),
+            Write(2, Row),
+            Commit,
+            Stop,
+            Recover,
+            Recover,
+        ],
+        "mmmmmmmmr",
+        1,
+        0,
+        &[(2, Row, 512)],
+    ),
+    // within the write of an undo
+    (
+        &[
+            Begin,
+            Lock(2),
+            Open,
+            Journal(2),
+            Write(2, Row),
+            StopIn(Next::Undo, 50),
+        ],
+        "mmmmmm",
+        0,
+        1032,
+        &[(2, Row, 512), (2, Old, 50)],
+    ),
+    // within recovery, whose next operation is a write, and a cut
+    (
+        &[
+            Begin,
+            Lock(2),
+            Open,
+            Journal(2),
+            Write(2, Row),
+            Stop,
+            StopIn(Next::Recover, 7),
+        ],
+        "mmmmmmm",
+        0,
+        1032,
+        &[(2, Row, 512), (2, Old, 7)],
+    ),
+    (
+        &[
+            Begin,
+            Lock(2),
+            Open,
+            Journal(2),
+            Write(2, Row),
+            Stop,
+            StopIn(Next::Recover, 7),
+            Recover,
+            Recover,
+            Recover,
+            Recover,
+        ],
+        "mmmmmmmmmmr",
+        0,
+        0,
+        &[],
+    ),
+    (
+        &[Begin, StopIn(Next::Open, 300), StopIn(Next::Recover, 1)],
         "mmr",
         0,
         300,
@@ -197,7 +214,7 @@ static RUNS: [Run; 48] = [
     ),
     // served again
     (
-        &[Begin(0), StopIn(Next::Open, 0), Recover, Begin(1)],
+        &[Begin, StopIn(Next::Open, 0), Recover, Begin],
         "mmmm",
         0,
         0,
@@ -206,7 +223,9 @@ static RUNS: [Run; 48] = [
     // undone
     (
         &[
-            Begin(0),
+            Begin,
+            Lock(2),
+            Lock(3),
             Open,
             Journal(2),
             Write(2, Row),
@@ -220,38 +239,41 @@ static RUNS: [Run; 48] = [
             Roll,
             Commit,
         ],
-        "mmmmmrrrrrrmr",
+        "mmmmmmmrrrrrrmr",
         0,
         0,
         &[],
     ),
     (
-        &[Begin(0), Open, Journal(2), Write(2, Row), Roll],
-        "mmmmr",
+        &[Begin, Lock(2), Open, Journal(2), Write(2, Row), Roll],
+        "mmmmmr",
         0,
         1032,
         &[(2, Row, 512)],
     ),
-    // the least page is undone first, and none begins beside
+    // the least page is undone first
     (
         &[
-            Begin(0),
+            Begin,
+            Lock(2),
+            Lock(3),
             Open,
             Journal(3),
             Write(3, Row),
             Journal(2),
             Write(2, Row),
             Undo,
-            Begin(1),
         ],
-        "mmmmmmmr",
+        "mmmmmmmmm",
         0,
         1552,
         &[(3, Row, 512)],
     ),
     (
         &[
-            Begin(0),
+            Begin,
+            Lock(2),
+            Lock(3),
             Open,
             Journal(3),
             Write(3, Row),
@@ -262,7 +284,7 @@ static RUNS: [Run; 48] = [
             Undo,
             Roll,
         ],
-        "mmmmmmmmrm",
+        "mmmmmmmmmmrm",
         0,
         0,
         &[],
@@ -270,12 +292,15 @@ static RUNS: [Run; 48] = [
     // a page is written twice, and two transactions commit
     (
         &[
-            Begin(0),
+            Begin,
+            Lock(2),
             Open,
             Journal(2),
             Write(2, Row),
             Commit,
-            Begin(0),
+            Release(2),
+            Begin,
+            Lock(2),
             Read(2),
             Open,
             Journal(2),
@@ -283,20 +308,19 @@ static RUNS: [Run; 48] = [
             Write(2, Old),
             Commit,
         ],
-        "mmmmmmmmmmmm",
+        "mmmmmmmmmmmmmmm",
         2,
         0,
         &[],
     ),
-    // begun by an id past the last, twice, beside another, after it, and while recovering
-    (&[Begin(16)], "r", 0, 0, &[]),
-    (&[Begin(0), Begin(0), Begin(1)], "mrr", 0, 0, &[]),
-    (&[Begin(0), Roll, Begin(1)], "mmm", 0, 0, &[]),
-    (&[Stop, Begin(0)], "mr", 0, 0, &[]),
+    // begun twice, after its end, and while recovering
+    (&[Begin, Begin], "mr", 0, 0, &[]),
+    (&[Begin, Roll, Begin], "mmm", 0, 0, &[]),
+    (&[Stop, Begin], "mr", 0, 0, &[]),
     // anything while recovering, and by nobody
     (
         &[
-            Begin(0),
+            Begin,
             Stop,
             Read(2),
             Open,
@@ -322,7 +346,9 @@ static RUNS: [Run; 48] = [
     // anything after the end
     (
         &[
-            Begin(0),
+            Begin,
+            Lock(2),
+            Lock(3),
             Open,
             Journal(2),
             Write(2, Row),
@@ -335,14 +361,16 @@ static RUNS: [Run; 48] = [
             Write(2, Row),
             Commit,
         ],
-        "mmmmmrrrrrrr",
+        "mmmmmmmrrrrrrr",
         1,
         0,
         &[(2, Row, 512)],
     ),
     (
         &[
-            Begin(0),
+            Begin,
+            Lock(2),
+            Lock(3),
             Roll,
             Undo,
             Roll,
@@ -352,49 +380,58 @@ static RUNS: [Run; 48] = [
             Write(2, Row),
             Commit,
         ],
-        "mmrrrrrrr",
+        "mmmmrrrrrrr",
         0,
         0,
         &[],
     ),
     // pages that are none
-    (&[Begin(0), Read(0), Read(7), Read(6)], "mrrm", 0, 0, &[]),
+    (
+        &[Begin, Lock(0), Lock(6), Lock(7), Read(0), Read(7), Read(6)],
+        "mmmmrrm",
+        0,
+        0,
+        &[],
+    ),
     // a journal opened twice
-    (&[Begin(0), Open, Open], "mmr", 0, 512, &[]),
+    (&[Begin, Open, Open], "mmr", 0, 512, &[]),
     // records without a head, of pages that are none, and twice
-    (&[Begin(0), Journal(2)], "mr", 0, 0, &[]),
+    (&[Begin, Lock(2), Journal(2)], "mmr", 0, 0, &[]),
     (
         &[
-            Begin(0),
+            Begin,
+            Lock(0),
+            Lock(2),
+            Lock(7),
             Open,
             Journal(0),
             Journal(7),
             Journal(2),
             Journal(2),
         ],
-        "mmrrmr",
+        "mmmmmrrmr",
         0,
         1032,
         &[],
     ),
     // pages without a record, of another length, and with another front of page 1
     (
-        &[Begin(0), Open, Write(2, Row), Write(7, Row)],
-        "mmrr",
+        &[Begin, Lock(2), Lock(7), Open, Write(2, Row), Write(7, Row)],
+        "mmmmrr",
         0,
         512,
         &[],
     ),
     (
-        &[Begin(0), Open, Journal(2), Write(2, Short)],
-        "mmmr",
+        &[Begin, Lock(2), Open, Journal(2), Write(2, Short)],
+        "mmmmr",
         0,
         1032,
         &[],
     ),
     (
-        &[Begin(0), Open, Journal(1), Write(1, OtherFront)],
-        "mmmr",
+        &[Begin, Lock(1), Open, Journal(1), Write(1, OtherFront)],
+        "mmmmr",
         0,
         1032,
         &[],
@@ -402,7 +439,10 @@ static RUNS: [Run; 48] = [
     // the file grows, once each new page is written
     (
         &[
-            Begin(0),
+            Begin,
+            Lock(1),
+            Lock(7),
+            Lock(8),
             Open,
             Journal(1),
             Write(1, Pages(7)),
@@ -411,7 +451,7 @@ static RUNS: [Run; 48] = [
             Write(7, Row),
             Commit,
         ],
-        "mmmmrrmm",
+        "mmmmmmmrrmm",
         1,
         0,
         &[(1, Pages(7), 512), (7, Row, 512)],
@@ -419,21 +459,25 @@ static RUNS: [Run; 48] = [
     // stopped once it has grown, and recovered to what it was
     (
         &[
-            Begin(0),
+            Begin,
+            Lock(1),
+            Lock(7),
             Open,
             Journal(1),
             Write(1, Pages(7)),
             Write(7, Row),
             Stop,
         ],
-        "mmmmmm",
+        "mmmmmmmm",
         0,
         1032,
         &[(1, Pages(7), 512), (7, Row, 512)],
     ),
     (
         &[
-            Begin(0),
+            Begin,
+            Lock(1),
+            Lock(7),
             Open,
             Journal(1),
             Write(1, Pages(7)),
@@ -445,7 +489,7 @@ static RUNS: [Run; 48] = [
             Recover,
             Recover,
         ],
-        "mmmmmmmmmmr",
+        "mmmmmmmmmmmmr",
         0,
         0,
         &[],
@@ -453,65 +497,143 @@ static RUNS: [Run; 48] = [
     // a header that a database may not have next: fewer pages, a number that does not count, one whose
     // pages are too many, or none that is read
     (
-        &[Begin(0), Open, Journal(1), Write(1, Pages(5)), Commit],
-        "mmmmr",
+        &[Begin, Lock(1), Open, Journal(1), Write(1, Pages(5)), Commit],
+        "mmmmmr",
         0,
         1032,
         &[(1, Pages(5), 512)],
     ),
     (
-        &[Begin(0), Open, Journal(1), Write(1, Uncounted), Commit],
-        "mmmmr",
+        &[
+            Begin,
+            Lock(1),
+            Open,
+            Journal(1),
+            Write(1, Uncounted),
+            Commit,
+        ],
+        "mmmmmr",
         0,
         1032,
         &[(1, Uncounted, 512)],
     ),
     (
-        &[Begin(0), Open, Journal(1), Write(1, TooMany), Commit],
-        "mmmmr",
+        &[Begin, Lock(1), Open, Journal(1), Write(1, TooMany), Commit],
+        "mmmmmr",
         0,
         1032,
         &[(1, TooMany, 512)],
     ),
     (
-        &[Begin(0), Open, Journal(1), Write(1, Unread), Commit],
-        "mmmmr",
+        &[Begin, Lock(1), Open, Journal(1), Write(1, Unread), Commit],
+        "mmmmmr",
         0,
         1032,
         &[(1, Unread, 512)],
     ),
     // an undo of nothing
-    (&[Begin(0), Undo], "mr", 0, 0, &[]),
+    (&[Begin, Undo], "mr", 0, 0, &[]),
     // recovery of what is served
     (&[Recover], "r", 0, 0, &[]),
     // a stop in another stop, in what makes no write, and in what is not enabled; recovery of what is
     // served
-    (&[Begin(0), StopIn(Next::Stop, 0)], "mr", 0, 0, &[]),
+    (&[Begin, StopIn(Next::Stop, 0)], "mr", 0, 0, &[]),
     (
         &[
-            Begin(0),
-            StopIn(Next::Begin, 0),
+            Begin,
+            Lock(2),
+            StopIn(Next::Lock, 0),
             StopIn(Next::Record, 1),
             Recover,
         ],
-        "mrrr",
+        "mmrrr",
+        0,
+        0,
+        &[],
+    ),
+    (
+        &[Begin, Never(0), Never(1), Never(2), Never(3), Never(4)],
+        "mrrrrr",
+        0,
+        0,
+        &[],
+    ),
+    // within the first 200 bytes of the head, the first 300 of the record, the first 10 of the page
+    (
+        &[Begin, StopIn(Next::Open, 200), Recover, Recover, Recover],
+        "mmmmr",
         0,
         0,
         &[],
     ),
     (
         &[
-            Begin(0),
-            Never(0),
-            Never(1),
-            Never(2),
-            Never(3),
-            Never(4),
-            Never(5),
-            Never(6),
-            Never(7),
+            Begin,
+            Lock(2),
+            Open,
+            StopIn(Next::Record, 300),
+            Recover,
+            Recover,
+            Recover,
         ],
-        "mrrrrrrrr",
+        "mmmmmmr",
+        0,
+        0,
+        &[],
+    ),
+    (
+        &[
+            Begin,
+            Lock(2),
+            Open,
+            Journal(2),
+            StopIn(Next::Row, 10),
+            Recover,
+            Recover,
+            Recover,
+            Recover,
+        ],
+        "mmmmmmmmr",
+        0,
+        0,
+        &[],
+    ),
+    // without the lock, under one that is only read, and under one that is given up too early
+    (
+        &[
+            Begin,
+            Read(2),
+            Share(2),
+            Read(2),
+            Open,
+            Journal(2),
+            Release(2),
+            Lock(2),
+            Journal(2),
+            Write(2, Row),
+            Write(3, Row),
+        ],
+        "mrmmmrrmmmr",
+        0,
+        1032,
+        &[(2, Row, 512)],
+    ),
+    // a lock that there is not, a lock kept past the end, and one given back
+    (
+        &[
+            Begin,
+            Lock(16),
+            Share(16),
+            Lock(15),
+            Roll,
+            Begin,
+            Lock(3),
+            Release(3),
+            Release(15),
+            Release(15),
+            Begin,
+        ],
+        "mrrmmrrrmrm",
         0,
         0,
         &[],
@@ -531,7 +653,7 @@ fn lay_change(alloc: Global, file: &mut Vec<u8>, change: &Change) -> Result<(), 
 }
 
 // The bytes of the file with these changes.
-fn file_of(alloc: Global, changes: &[Change]) -> Result<Vec<u8>, AllocError> {
+pub fn file_of(alloc: Global, changes: &[Change]) -> Result<Vec<u8>, AllocError> {
     let mut file = two(alloc)?;
     for change in changes {
         lay_change(alloc, &mut file, change)?;
@@ -543,13 +665,13 @@ fn file_of(alloc: Global, changes: &[Change]) -> Result<Vec<u8>, AllocError> {
 fn events_of(alloc: Global, moves: &[Move]) -> Result<Events, AllocError> {
     let mut found = Vec::new(alloc);
     for short in moves {
-        found.push(event_of(alloc, *short)?)?;
+        found.push(event_of(alloc, 0, *short)?)?;
     }
     Ok(Events::new(found))
 }
 
 // A core that serves the database.
-fn begun(alloc: Global) -> Result<Option<Core>, AllocError> {
+pub fn begun(alloc: Global) -> Result<Option<Core>, AllocError> {
     let file = two(alloc)?;
     if !is_opening(&file) {
         return Ok(None);
@@ -566,7 +688,7 @@ fn answers(core: &mut Core, event: &Event, letter: u8) -> Result<bool, AllocErro
 }
 
 // Whether the core answers the events with these letters, one for each.
-fn answers_all(core: &mut Core, events: &[Event], letters: &[u8]) -> Result<bool, AllocError> {
+pub fn answers_all(core: &mut Core, events: &[Event], letters: &[u8]) -> Result<bool, AllocError> {
     let mut same = events.len() == letters.len();
     for (event, letter) in events.iter().zip(letters) {
         if !answers(core, event, *letter)? {
@@ -577,7 +699,7 @@ fn answers_all(core: &mut Core, events: &[Event], letters: &[u8]) -> Result<bool
 }
 
 // How many of some events are made.
-fn made_in(letters: &str) -> u64 {
+pub fn made_in(letters: &str) -> u64 {
     let mut made = 0u64;
     for letter in letters.as_bytes() {
         if *letter == b'm' {

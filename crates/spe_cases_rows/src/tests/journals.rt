@@ -4,10 +4,9 @@ ghost use Rattle.std.specs.Prelude.{◌≡◌, false, IfOk};
 ghost use Rattle.spe_disk.specs.Memory.{is_attached};
 
 use super::files::{PEOPLE, TWO, file_of, journal, lay, put, two};
-use super::run::{disk_of, is_ended, load, run_over};
+use super::run::{disk_of, expect_row, is_ended, load, run_over};
 use spe_disk::{MemDisk, stopped_at};
 use std::alloc::{AllocError, Global};
-use std::process::Abort;
 use std::sync::Wait;
 use std::test::Fail;
 use std::thread::Threads;
@@ -55,23 +54,22 @@ fn disk_for(alloc: Global, case: &Case) -> Result<MemDisk, AllocError>
     Ok(disk)
 }
 
-fn expect<R: Threads + Wait + Sync + Abort>(
+fn journal_holds<R: Threads + Wait + Sync>(
     rt: &R,
     alloc: Global,
     case: &Case,
-) -> Result<(), AllocError> {
+) -> Result<bool, AllocError> {
     let (_, _, ops, status, text) = *case;
     let disk = disk_for(alloc, case)?;
     let ended = run_over(rt, alloc, &["rows", "people.db", "p"], disk)?;
-    let holds = is_ended(&ended, status, text.as_bytes(), ops);
-    assert!(rt; holds, "{text}");
-    Ok(())
+    Ok(is_ended(&ended, status, text.as_bytes(), ops))
 }
 
 #[test]
 fn journals(rt: HostRuntime) -> Result<(), Fail> {
     for case in &JOURNALS {
-        expect(&rt, rt.alloc(), case)?;
+        let holds = journal_holds(&rt, rt.alloc(), case)?;
+        expect_row(&rt, case.4, 0, holds);
     }
     Ok(())
 }
@@ -177,20 +175,11 @@ fn holds<R: Threads + Wait + Sync>(
     Ok(sound && again)
 }
 
-fn expect_stop<R: Threads + Wait + Sync + Abort>(
-    rt: &R,
-    alloc: Global,
-    case: (usize, u64),
-) -> Result<(), AllocError> {
-    let holds = holds(rt, alloc, case)?;
-    assert!(rt; holds, "{case:?}");
-    Ok(())
-}
-
 #[test]
 fn three_journals(rt: HostRuntime) -> Result<(), Fail> {
     for case in &STOPS {
-        expect_stop(&rt, rt.alloc(), *case)?;
+        let holds = holds(&rt, rt.alloc(), *case)?;
+        expect_row(&rt, "stopped", case.0 as u64, holds);
     }
     Ok(())
 }
@@ -245,23 +234,45 @@ fn grown(alloc: Global) -> Result<Vec<u8>, AllocError> {
     Ok(file)
 }
 
+// A journal of the grown file's page 2.
+fn grown_journal(alloc: Global) -> Result<Vec<u8>, AllocError> {
+    let file = grown(alloc)?;
+    journal(alloc, 6, &file, 2)
+}
+
+// Puts that journal onto a disk.
+fn load_grown(alloc: Global, disk: &mut MemDisk) -> Result<(), AllocError>
+    requires { is_attached disk.old ≡ false }
+    ensures { is_attached disk.new ≡ false }
+{
+    let held = grown_journal(alloc)?;
+    load(disk, 0, &held);
+    Ok(())
+}
+
+// The grown file with its page 2 overwritten.
+fn overwritten_grown(alloc: Global) -> Result<MemDisk, AllocError>
+    ensures { IfOk result (λ d. is_attached d ≡ false) }
+{
+    let mut file = grown(alloc)?;
+    put(&mut file, 512, 0xff);
+    disk_of(alloc, Some(&file), &[])
+}
+
 // A journal from before a commit that made the file longer: its page goes back, and the file keeps its pages.
 fn grown_disk(alloc: Global) -> Result<MemDisk, AllocError>
     ensures { IfOk result (λ d. is_attached d ≡ false) }
 {
-    let mut file = grown(alloc)?;
-    let held = journal(alloc, 6, &file, 2)?;
-    put(&mut file, 512, 0xff);
-    let mut disk = disk_of(alloc, Some(&file), &[])?;
-    load(&mut disk, 0, &held);
+    let mut disk = overwritten_grown(alloc)?;
+    load_grown(alloc, &mut disk)?;
     Ok(disk)
 }
 
 #[test]
 fn grown_file(rt: HostRuntime) -> Result<(), Fail> {
     let disk = grown_disk(rt.alloc())?;
+    let text = "ok pages 22 tables 2 rows 64 free 16\n";
     let ended = run_over(&rt, rt.alloc(), &WORDS, disk)?;
-    let holds = is_ended(&ended, 0, b"ok pages 22 tables 2 rows 64 free 16\n", 2);
-    assert!(rt; holds);
+    expect_row(&rt, text, 0, is_ended(&ended, 0, text.as_bytes(), 2));
     Ok(())
 }

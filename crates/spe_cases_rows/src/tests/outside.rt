@@ -5,7 +5,7 @@ ghost use Rattle.spe_disk.specs.Memory.{is_attached};
 
 use super::files::{PEOPLE, Patch, file_of, lay, two};
 use super::run::{
-    Ended, disk_of, ended_of, expect, expect_of, is_ended, run_over, sink_of, words_of,
+    Ended, disk_of, ended_of, expect, expect_of, expect_row, is_ended, run_over, sink_of, words_of,
 };
 use spe_disk::MemDisk;
 use std::alloc::{AllocError, Global};
@@ -40,7 +40,7 @@ static WORDS: [(&[&str], u8, &str); 17] = [
     (&["check", "d.db", "t"], 1, "refused words\n"),
     (&["check", "d.db", "--workers=1"], 1, "refused words\n"),
     // commands to come
-    (&["run", "b.db", "s"], 2, "refused not-built\n"),
+    (&["run", "b.db", "s"], 2, "refused no-script 1\n"),
     (&["work", "b.db", "1", "100"], 2, "refused not-built\n"),
 ];
 
@@ -51,7 +51,7 @@ fn expect_words<R: Threads + Wait + Sync + Abort>(
 ) -> Result<(), AllocError> {
     let (words, status, text) = *case;
     let disk = disk_of(alloc, None, &[1])?;
-    expect_of(rt, alloc, words, disk, status, text)
+    expect_of(rt, alloc, words, disk, (status, text))
 }
 
 #[test]
@@ -105,7 +105,13 @@ fn expect_file<R: Threads + Wait + Sync + Abort>(
     let mut file = file_of(alloc, 1024, &PEOPLE)?;
     lay(&mut file, &[patch]);
     file.truncate(length);
-    expect(rt, alloc, &["rows", "people.db", "p"], Some(&file), 2, text)
+    expect(
+        rt,
+        alloc,
+        &["rows", "people.db", "p"],
+        Some(&file),
+        (2, text),
+    )
 }
 
 #[test]
@@ -163,7 +169,7 @@ fn expect_refused<R: Threads + Wait + Sync + Abort>(
     let mut file = two(alloc)?;
     lay(&mut file, patches);
     file.truncate(length);
-    expect(rt, alloc, &["check", "two.db"], Some(&file), 2, text)
+    expect(rt, alloc, &["check", "two.db"], Some(&file), (2, text))
 }
 
 #[test]
@@ -185,14 +191,8 @@ static ABSENT: [&[&str]; 4] = [
 #[test]
 fn no_file(rt: HostRuntime) -> Result<(), Fail> {
     for words in &ABSENT {
-        expect(
-            &rt,
-            rt.alloc(),
-            *words,
-            None,
-            2,
-            "refused no-such-database\n",
-        )?;
+        let end = (2, "refused no-such-database\n");
+        expect(&rt, rt.alloc(), *words, None, end)?;
     }
     Ok(())
 }
@@ -276,14 +276,14 @@ fn failing_calls<R: Threads + Wait + Sync>(
 #[test]
 fn failing_reads(rt: HostRuntime) -> Result<(), Fail> {
     let calls = failing_calls(&rt, rt.alloc(), Asked::Rows)?;
-    assert!(rt; 21 < calls && calls < 200);
+    expect_row(&rt, "readings", calls, 21 < calls && calls < 200);
     Ok(())
 }
 
 #[test]
 fn failing_reads_of_a_check(rt: HostRuntime) -> Result<(), Fail> {
     let calls = failing_calls(&rt, rt.alloc(), Asked::Check)?;
-    assert!(rt; 24 < calls && calls < 200);
+    expect_row(&rt, "readings", calls, 24 < calls && calls < 200);
     Ok(())
 }
 
@@ -305,6 +305,6 @@ fn sink_fails<R: Threads + Wait + Sync>(
 fn failing_sink(rt: HostRuntime) -> Result<(), Fail> {
     let rows = sink_fails(&rt, rt.alloc(), Asked::Rows, b"1|1|'ann")?;
     let check = sink_fails(&rt, rt.alloc(), Asked::Check, b"ok pages")?;
-    assert!(rt; rows && check);
+    expect_row(&rt, "sink", 2, rows && check);
     Ok(())
 }

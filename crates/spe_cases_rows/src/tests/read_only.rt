@@ -5,7 +5,7 @@ ghost use Rattle.spe_disk.specs.Memory.{history_of, is_attached, op_fault_count,
 ghost use Rattle.spe_model.specs.Settled.{IsWithinLimits};
 
 use super::files::two;
-use super::run::disk_of;
+use super::run::{disk_of, expect_row};
 use spe_check::{DiskSpace, Origin};
 use spe_disk::{Disk, MemDisk};
 use spe_model::Recovered;
@@ -15,7 +15,7 @@ use std::marker::Brand;
 use std::process::Abort;
 use std::test::Fail;
 
-#[derive(Clone, Copy, Debug)]
+#[derive(Clone, Copy)]
 enum Call {
     Get(u32),
     // A page of zeros.
@@ -99,25 +99,14 @@ fn answer_to<S: PageSpace>(alloc: Global, space: &mut S, call: Call) -> Result<A
     }
 }
 
-fn expect_answer<R: Abort, S: PageSpace>(
-    rt: &R,
-    alloc: Global,
-    space: &mut S,
-    call: Call,
-    expected: Answer,
-) -> Result<(), AllocError> {
-    let found = answer_to(alloc, space, call)?;
-    assert!(rt; found == expected, "{call:?}");
-    Ok(())
-}
-
 fn expect_answers<R: Abort, S: PageSpace>(
     rt: &R,
     alloc: Global,
     space: &mut S,
 ) -> Result<(), AllocError> {
-    for (call, expected) in &CALLS {
-        expect_answer(rt, alloc, space, *call, *expected)?;
+    for (row, (call, expected)) in CALLS.iter().enumerate() {
+        let found = answer_to(alloc, space, *call)?;
+        expect_row(rt, "call", row as u64, found == *expected);
     }
     Ok(())
 }

@@ -1,7 +1,7 @@
 //! What `rows` does over real files, with hot journals beside the database.
 
 use super::files::{SIGNS, SIGNS_ROWS, file_of, journal};
-use super::run::{Ended, run_over};
+use super::run::{Ended, expect_row, run_over};
 use spe_files::FileDisk;
 use std::alloc::{Alloc, AllocError, Global};
 use std::fs::File;
@@ -100,6 +100,6 @@ fn three_journals(rt: HostRuntime) -> Result<(), Fail> {
     let disk = FileDisk::new(&rt, rt.alloc());
     let printed = is_printed(&run_over(&rt, rt.alloc(), &["rows", name.as_str(), "p"], disk)?);
     let left = is_left(&rt, rt.alloc(), name.as_str())?;
-    assert!(rt; printed && left);
+    expect_row(&rt, "real files", 3, printed && left);
     Ok(())
 }

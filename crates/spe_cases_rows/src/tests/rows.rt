@@ -13,7 +13,7 @@ fn people(rt: HostRuntime) -> Result<(), Fail> {
     let file = file_of(rt.alloc(), 1024, &PEOPLE)?;
     let words = ["rows", "people.db", "p"];
     let text = "1|1|'ann'\n2|2|'bob'\n3|3|NULL\nrows 3\n";
-    expect(&rt, rt.alloc(), &words, Some(&file), 0, text)?;
+    expect(&rt, rt.alloc(), &words, Some(&file), (0, text))?;
     Ok(())
 }
 
@@ -33,14 +33,8 @@ fn expect_table<R: Threads + Wait + Sync + Abort>(
     case: &(&str, u8, &str),
 ) -> Result<(), AllocError> {
     let (table, status, text) = *case;
-    expect(
-        rt,
-        alloc,
-        &["rows", "signs.db", table],
-        Some(file),
-        status,
-        text,
-    )
+    let words = ["rows", "signs.db", table];
+    expect(rt, alloc, &words, Some(file), (status, text))
 }
 
 #[test]

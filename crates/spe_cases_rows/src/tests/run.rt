@@ -20,11 +20,17 @@ pub struct Ended<D> {
     pub sink: MemSink,
 }
 
+fn push_word(alloc: Global, words: &mut Vec<Text>, word: &str) -> Result<(), AllocError> {
+    let text = Text::new(String::from_str(alloc, word)?);
+    words.push(text)?;
+    Ok(())
+}
+
 /// The words of a command line.
 pub fn words_of(alloc: Global, words: &[&str]) -> Result<Words, AllocError> {
     let mut found = Vec::new(alloc);
     for word in words {
-        found.push(Text::new(String::from_str(alloc, word)?))?;
+        push_word(alloc, &mut found, word)?;
     }
     Ok(Words::new(found))
 }
@@ -117,17 +123,30 @@ pub fn is_ended(ended: &Ended<MemDisk>, status: u8, text: &[u8], ops: u64) -> bo
         && ended.sink.as_slice() == text
 }
 
+// Whether a run over this disk ends with this status and text, and writes nothing.
+fn ends<R: Threads + Wait + Sync>(
+    rt: &R,
+    alloc: Global,
+    words: &[&str],
+    disk: MemDisk,
+    end: (u8, &str),
+) -> Result<bool, AllocError>
+    requires { is_attached disk ≡ false }
+{
+    let ended = run_over(rt, alloc, words, disk)?;
+    Ok(is_ended(&ended, end.0, end.1.as_bytes(), 0))
+}
+
 /// Runs the program over this file, where there is one, and expects this status and text.
 pub fn expect<R: Threads + Wait + Sync + Abort>(
     rt: &R,
     alloc: Global,
     words: &[&str],
     file: Option<&[u8]>,
-    status: u8,
-    text: &str,
+    end: (u8, &str),
 ) -> Result<(), AllocError> {
     let disk = disk_of(alloc, file, &[])?;
-    expect_of(rt, alloc, words, disk, status, text)
+    expect_of(rt, alloc, words, disk, end)
 }
 
 /// The same over this disk.
@@ -136,13 +155,16 @@ pub fn expect_of<R: Threads + Wait + Sync + Abort>(
     alloc: Global,
     words: &[&str],
     disk: MemDisk,
-    status: u8,
-    text: &str,
+    end: (u8, &str),
 ) -> Result<(), AllocError>
     requires { is_attached disk ≡ false }
 {
-    let ended = run_over(rt, alloc, words, disk)?;
-    let holds = is_ended(&ended, status, text.as_bytes(), 0);
-    assert!(rt; holds, "{text}");
+    let holds = ends(rt, alloc, words, disk, end)?;
+    expect_row(rt, end.1, 0, holds);
     Ok(())
+}
+
+/// Expects that a row of a table holds.
+pub fn expect_row<R: Abort>(rt: &R, name: &str, row: u64, holds: bool) {
+    assert!(rt; holds, "{name} {row}");
 }

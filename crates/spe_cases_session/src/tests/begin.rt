@@ -34,7 +34,7 @@ impl Beginning for First {
     ghost use Rattle.std.specs.Prelude.{[], None};
     ghost use Rattle.spe_session.specs.Below.{Begun};
 
-    ghost begun = { record { told = None; entries = []; count = 3; id = 0; first = 3 } };
+    ghost begun = { record { told = None; entries = []; count = 3; id = 0; first = 3; reads = 0 } };
 }
 
 fn found() -> Recovered

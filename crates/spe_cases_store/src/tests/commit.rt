@@ -31,14 +31,8 @@ fn change(store: &mut Store<Blind, Three>, pass: &mut Pass) -> Result<(), StoreF
     ensures tied { IsTied store.new pass.new }
     ensures changed { OnOk result (HasChanged store.new pass.new.id) }
 {
-    match store.open_journal(pass) {
-        Ok(()) => (),
-        Err(fault) => return Err(fault),
-    }
-    match store.journal(pass, 2) {
-        Ok(()) => (),
-        Err(fault) => return Err(fault),
-    }
+    store.open_journal(pass)?;
+    store.journal(pass, 2)?;
     store.write(pass, 2, &[9; PAGE])
 }
 
@@ -55,15 +49,9 @@ pub fn commit(
     let Ok(mut pass) = store.take_pass(session) else {
         return Err(StoreFault::Memory);
     };
-    match change(store, &mut pass) {
-        Ok(()) => (),
-        Err(fault) => return Err(fault),
-    }
+    change(store, &mut pass)?;
     store.keeps();
-    let receipt = match store.commit(&mut pass, session, log) {
-        Ok(receipt) => receipt,
-        Err(fault) => return Err(fault),
-    };
+    let receipt = store.commit(&mut pass, session, log)?;
     let (seat, _) = store.finish(pass, session);
     store.put_back(session, seat);
     Ok(receipt)
@@ -82,25 +70,13 @@ pub fn undo(
     let Ok(mut pass) = store.take_pass(session) else {
         return Err(StoreFault::Memory);
     };
-    match change(store, &mut pass) {
-        Ok(()) => (),
-        Err(fault) => return Err(fault),
-    }
-    let first = match store.undo_one(&mut pass) {
-        Ok(left) => left,
-        Err(fault) => return Err(fault),
-    };
-    let second = match store.undo_one(&mut pass) {
-        Ok(left) => left,
-        Err(fault) => return Err(fault),
-    };
+    change(store, &mut pass)?;
+    let first = store.undo_one(&mut pass)?;
+    let second = store.undo_one(&mut pass)?;
     if second > 0 {
         return Ok((first, second));
     }
-    match store.drop_journal(&mut pass) {
-        Ok(()) => (),
-        Err(fault) => return Err(fault),
-    }
+    store.drop_journal(&mut pass)?;
     let (seat, _) = store.finish(pass, session);
     store.put_back(session, seat);
     Ok((first, second))

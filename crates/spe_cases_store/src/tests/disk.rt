@@ -14,7 +14,7 @@ pub const PAGE: usize = 512;
 const FRONT: &[u8] = b"SQLite format 3\x00\x02\x00\x01\x01\x00@  \x00\x00\x00\x03\x00\x00\x00\x03";
 
 /// An operation that was tried.
-#[derive(Clone, Copy, Debug, PartialEq, Eq)]
+#[derive(Clone, Copy, PartialEq, Eq)]
 pub enum Made {
     /// A write: its file, its place, and how many bytes it has.
     Write(FileNo, u64, usize),

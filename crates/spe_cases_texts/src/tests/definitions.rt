@@ -1,7 +1,8 @@
 //! Definitions of tables, and what they declare.
 
+use super::expect;
 use spe_catalog::definition;
-use spe_model::{Affinity, Columns, Declaration};
+use spe_model::{Affinity, Column, Declaration};
 use std::alloc::{AllocError, Global};
 use std::process::Abort;
 use std::test::Fail;
@@ -199,46 +200,51 @@ fn affinity(affinity: Affinity) -> &'static str {
     }
 }
 
-fn put_columns(out: &mut String, columns: &Columns, alias: Option<u32>) -> Result<(), AllocError> {
-    for (place, column) in columns.as_slice().iter().enumerate() {
-        out.push_str(column.name.as_str())?;
-        out.push_str(affinity(column.affinity))?;
-        if column.not_null {
-            out.push('!')?;
-        }
-        if alias.is_some_and(|a| a as usize == place) {
-            out.push('*')?;
-        }
-        out.push('|')?;
+fn put_column(out: &mut String, column: &Column, is_alias: bool) -> Result<(), AllocError> {
+    out.push_str(column.name.as_str())?;
+    out.push_str(affinity(column.affinity))?;
+    out.push_str(if column.not_null { "!" } else { "" })?;
+    out.push_str(if is_alias { "*|" } else { "|" })
+}
+
+fn put_columns(out: &mut String, columns: &[Column], alias: Option<u32>) -> Result<(), AllocError> {
+    for (place, column) in columns.iter().enumerate() {
+        put_column(out, column, alias.is_some_and(|a| a as usize == place))?;
     }
     Ok(())
 }
 
-// The columns in writing, or nothing of a text that is not understood.
-fn written(alloc: Global, declared: Option<Declaration>) -> Result<String, AllocError> {
+fn written(alloc: Global, declaration: &Declaration) -> Result<String, AllocError> {
     let mut out = String::new(alloc);
-    if let Some(declaration) = declared {
-        put_columns(&mut out, &declaration.columns, declaration.alias)?;
-    }
+    put_columns(&mut out, declaration.columns.as_slice(), declaration.alias)?;
     Ok(out)
 }
 
-fn expect<R: Abort>(rt: &R, alloc: Global, sql: &str, columns: &str) -> Result<(), AllocError> {
-    let found = written(alloc, definition(alloc, sql)?)?;
-    assert_eq!(rt; found.as_str(), columns, "{sql}");
-    Ok(())
+// The columns of a text in writing, or nothing of one that is not understood.
+fn read(alloc: Global, sql: &str) -> Result<String, AllocError> {
+    match definition(alloc, sql)? {
+        Some(declaration) => written(alloc, &declaration),
+        None => Ok(String::new(alloc)),
+    }
+}
+
+fn is_read(alloc: Global, sql: &str, columns: &str) -> Result<bool, AllocError> {
+    let found = read(alloc, sql)?;
+    Ok(found.as_str() == columns)
 }
 
 fn expect_all<R: Abort>(rt: &R, alloc: Global, cases: &[(&str, &str)]) -> Result<(), AllocError> {
     for (sql, columns) in cases {
-        expect(rt, alloc, sql, columns)?;
+        let holds = is_read(alloc, sql, columns)?;
+        expect(rt, sql, holds);
     }
     Ok(())
 }
 
 fn expect_unknown<R: Abort>(rt: &R, alloc: Global, texts: &[&str]) -> Result<(), AllocError> {
     for sql in texts {
-        expect(rt, alloc, sql, "")?;
+        let holds = is_read(alloc, sql, "")?;
+        expect(rt, sql, holds);
     }
     Ok(())
 }
@@ -261,21 +267,18 @@ fn spelled(rt: HostRuntime) -> Result<(), Fail> {
     Ok(())
 }
 
-fn expect_type<R: Abort>(
-    rt: &R,
-    alloc: Global,
-    declared: &str,
-    affinity: &str,
-) -> Result<(), AllocError> {
+// Whether a column of this type has this affinity.
+fn has_affinity(alloc: Global, declared: &str, affinity: &str) -> Result<bool, AllocError> {
     let sql = format!(in alloc; "CREATE TABLE t(a {declared})")?;
     let columns = format!(in alloc; "a {affinity}|")?;
-    expect(rt, alloc, sql.as_str(), columns.as_str())
+    is_read(alloc, sql.as_str(), columns.as_str())
 }
 
 #[test]
 fn types(rt: HostRuntime) -> Result<(), Fail> {
     for (declared, affinity) in &TYPES {
-        expect_type(&rt, rt.alloc(), *declared, *affinity)?;
+        let holds = has_affinity(rt.alloc(), *declared, *affinity)?;
+        expect(&rt, *declared, holds);
     }
     Ok(())
 }

@@ -1,5 +1,6 @@
 //! Scripts, their transactions, and their faults with the lines of these.
 
+use super::expect;
 use super::statements::shown;
 use spe_model::{End, Tx, TxKind};
 use spe_script::{ScriptError, ScriptKind, read_script};
@@ -178,9 +179,16 @@ fn read(alloc: Global, bytes: &[u8]) -> Result<String, AllocError> {
     }
 }
 
-fn expect(rt: &impl Abort, alloc: Global, script: &[u8], line: &str) -> Result<(), AllocError> {
+fn is_read(alloc: Global, script: &[u8], line: &str) -> Result<bool, AllocError> {
     let found = read(alloc, script)?;
-    assert_eq!(rt; found.as_str(), line);
+    Ok(found.as_str() == line)
+}
+
+fn expect_all(rt: &impl Abort, alloc: Global, cases: &[(&str, &str)]) -> Result<(), AllocError> {
+    for (script, line) in cases {
+        let holds = is_read(alloc, script.as_bytes(), line)?;
+        expect(rt, script, holds);
+    }
     Ok(())
 }
 
@@ -213,62 +221,72 @@ fn counted(alloc: Global, script: &[u8]) -> Result<String, AllocError> {
     }
 }
 
-fn expect_long(
-    rt: &impl Abort,
+// Whether such a script is so many transactions, or has this fault.
+fn is_long(
     alloc: Global,
     line: &[u8],
     times: usize,
     end: &str,
     expected: &str,
-) -> Result<(), AllocError> {
+) -> Result<bool, AllocError> {
     let script = repeated(alloc, line, times, end)?;
     let found = counted(alloc, script.as_slice())?;
-    assert_eq!(rt; found.as_str(), expected);
-    Ok(())
+    Ok(found.as_str() == expected)
 }
 
 #[test]
 fn scripts(rt: HostRuntime) -> Result<(), Fail> {
-    for (script, line) in &SCRIPTS {
-        expect(&rt, rt.alloc(), script.as_bytes(), *line)?;
-    }
+    expect_all(&rt, rt.alloc(), &SCRIPTS)?;
     Ok(())
 }
 
 #[test]
 fn script_faults(rt: HostRuntime) -> Result<(), Fail> {
-    for (script, line) in &FAULTS {
-        expect(&rt, rt.alloc(), script.as_bytes(), *line)?;
+    expect_all(&rt, rt.alloc(), &FAULTS)?;
+    Ok(())
+}
+
+static NO_TEXTS: [&[u8]; 3] = [&[255], b"COMMIT\n\xc3", b"\xed\xa0\x80"];
+
+#[test]
+fn scripts_that_are_no_text(rt: HostRuntime) -> Result<(), Fail> {
+    for script in &NO_TEXTS {
+        let holds = is_read(rt.alloc(), *script, "line 0 no text")?;
+        expect(&rt, "no text", holds);
     }
     Ok(())
 }
 
-#[test]
-fn scripts_that_are_no_text(rt: HostRuntime) -> Result<(), Fail> {
-    let alloc = rt.alloc();
-    expect(&rt, alloc, &[255], "line 0 no text")?;
-    expect(&rt, alloc, b"COMMIT\n\xc3", "line 0 no text")?;
-    expect(&rt, alloc, b"\xed\xa0\x80", "line 0 no text")?;
+// What stands behind so many lines, and what such a script is: 16777216 bytes, and one more.
+static LONGEST: [(&str, &str); 2] = [("", "16384"), (";", "line 0 too long")];
+
+fn expect_longest(rt: &impl Abort, alloc: Global, line: &[u8]) -> Result<(), AllocError> {
+    for (end, expected) in &LONGEST {
+        let holds = is_long(alloc, line, 16_384, end, expected)?;
+        expect(rt, expected, holds);
+    }
     Ok(())
 }
 
-// 16777216 bytes, and one more.
+// Too long a script is refused before it is found to be no text.
 #[test]
 fn longest_scripts(rt: HostRuntime) -> Result<(), Fail> {
-    let alloc = rt.alloc();
-    let line = long_line(alloc)?;
-    expect_long(&rt, alloc, line.as_slice(), 16_384, "", "16384")?;
-    expect_long(&rt, alloc, line.as_slice(), 16_384, ";", "line 0 too long")?;
-    expect_long(&rt, alloc, &[255; 64], 262_145, "", "line 0 too long")?;
+    let line = long_line(rt.alloc())?;
+    expect_longest(&rt, rt.alloc(), line.as_slice())?;
+    let holds = is_long(rt.alloc(), &[255; 64], 262_145, "", "line 0 too long")?;
+    expect(&rt, "bytes", holds);
     Ok(())
 }
 
-// The last of many lines of comments is wrong.
+// So many lines of comments, and what is wrong behind the last.
+static COMMENTS: [(usize, &str); 2] = [(262_143, "line 262144 token"), (1, "line 2 token")];
+
 #[test]
 fn long_comments(rt: HostRuntime) -> Result<(), Fail> {
-    let alloc = rt.alloc();
     let line = b"-- a line that says nothing, with a `;` and a `/*`, and ends so\n";
-    expect_long(&rt, alloc, line, 262_143, "$", "line 262144 token")?;
-    expect_long(&rt, alloc, line, 1, "$", "line 2 token")?;
+    for (times, expected) in &COMMENTS {
+        let holds = is_long(rt.alloc(), line, *times, "$", *expected)?;
+        expect(&rt, *expected, holds);
+    }
     Ok(())
 }

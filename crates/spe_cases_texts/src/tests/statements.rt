@@ -1,5 +1,6 @@
 //! Statements, their faults and the places of these.
 
+use super::expect;
 use spe_model::{Cond, Names, Op, Set, SqlFault, SqlKind, Statement, Text, Value};
 use spe_parse::parse;
 use std::alloc::{AllocError, Global};
@@ -420,20 +421,10 @@ fn is_read(alloc: Global, text: &str, line: &str) -> Result<bool, AllocError> {
     Ok(found.as_str() == line)
 }
 
-fn expect(rt: &impl Abort, alloc: Global, text: &str, line: &str) -> Result<(), AllocError> {
-    let found = read(alloc, text)?;
-    assert_eq!(rt; found.as_str(), line, "{text}");
-    Ok(())
-}
-
-fn expect_number(
-    rt: &impl Abort,
-    alloc: Global,
-    digits: &str,
-    line: &str,
-) -> Result<(), AllocError> {
+// Whether digits are read so.
+fn is_number(alloc: Global, digits: &str, line: &str) -> Result<bool, AllocError> {
     let text = format!(in alloc; "DELETE FROM a WHERE i = {digits}")?;
-    expect(rt, alloc, text.as_str(), line)
+    is_read(alloc, text.as_str(), line)
 }
 
 // Whether a word is refused so where a name is due.
@@ -457,13 +448,12 @@ fn is_name(alloc: Global, word: &str) -> Result<bool, AllocError> {
     is_read(alloc, text.as_str(), line.as_str())
 }
 
-// A word is refused so at the front and where a name is due, and is a name in quotes.
-fn expect_word(rt: &impl Abort, alloc: Global, word: &str, kind: &str) -> Result<(), AllocError> {
+// Whether a word is refused so at the front and where a name is due, and is a name in quotes.
+fn is_word(alloc: Global, word: &str, kind: &str) -> Result<bool, AllocError> {
     let refused = is_refused(alloc, word, kind)?;
     let last = is_refused_last(alloc, word, kind)?;
     let name = is_name(alloc, word)?;
-    assert!(rt; refused && last && name, "{word}");
-    Ok(())
+    Ok(refused && last && name)
 }
 
 fn expect_words(
@@ -473,14 +463,16 @@ fn expect_words(
     kind: &str,
 ) -> Result<(), AllocError> {
     for word in words {
-        expect_word(rt, alloc, word, kind)?;
+        let holds = is_word(alloc, word, kind)?;
+        expect(rt, word, holds);
     }
     Ok(())
 }
 
 fn expect_all(rt: &impl Abort, alloc: Global, cases: &[(&str, &str)]) -> Result<(), AllocError> {
     for (text, line) in cases {
-        expect(rt, alloc, text, line)?;
+        let holds = is_read(alloc, text, line)?;
+        expect(rt, text, holds);
     }
     Ok(())
 }
@@ -501,7 +493,8 @@ fn first_faults(rt: HostRuntime) -> Result<(), Fail> {
 #[test]
 fn numbers(rt: HostRuntime) -> Result<(), Fail> {
     for (digits, line) in &NUMBERS {
-        expect_number(&rt, rt.alloc(), *digits, *line)?;
+        let holds = is_number(rt.alloc(), *digits, *line)?;
+        expect(&rt, *digits, holds);
     }
     Ok(())
 }

@@ -1,13 +1,13 @@
 //! Getting and putting pages, and pages that are added, handed out and taken back.
 
 use crate::tests::files::Patch;
-use crate::tests::space::{Filling, Held, lay};
+use crate::tests::space::{Filling, Held, expect, lay};
 use spe_space::SpaceFault;
 use std::alloc::{AllocError, Global};
 use std::process::Abort;
 use std::test::Fail;
 
-#[derive(Clone, Copy, Debug)]
+#[derive(Clone, Copy)]
 enum Call {
     Get(u32),
     // A page that is full of one byte.
@@ -19,7 +19,7 @@ enum Call {
     Front,
 }
 
-#[derive(Clone, Copy, Debug, PartialEq, Eq)]
+#[derive(Clone, Copy, PartialEq, Eq)]
 enum Answer {
     Done,
     Page(u32),
@@ -213,21 +213,34 @@ fn front_of(bytes: &[u8]) -> Answer {
     )
 }
 
+fn got(alloc: Global, held: &mut Held, page: u32) -> Result<Answer, AllocError> {
+    match held.get(alloc, page)? {
+        Ok(bytes) => Ok(bytes_of(&bytes)),
+        Err(fault) => Ok(fault_of(fault)),
+    }
+}
+
+fn front(alloc: Global, held: &mut Held) -> Result<Answer, AllocError> {
+    match held.get(alloc, 1)? {
+        Ok(bytes) => Ok(front_of(&bytes)),
+        Err(fault) => Ok(fault_of(fault)),
+    }
+}
+
+fn put(alloc: Global, held: &mut Held, page: u32, byte: u8) -> Result<Answer, AllocError> {
+    let answer = held.put(alloc, page, byte)?;
+    Ok(done_of(answer))
+}
+
 fn answer_of(alloc: Global, held: &mut Held, call: Call) -> Result<Answer, AllocError> {
-    Ok(match call {
-        Call::Get(page) => match held.get(alloc, page)? {
-            Ok(bytes) => bytes_of(&bytes),
-            Err(fault) => fault_of(fault),
-        },
-        Call::Put(page, byte) => done_of(held.put(alloc, page, byte)?),
-        Call::Extend => page_of(held.extend()),
-        Call::Alloc => page_of(held.alloc()),
-        Call::Free(page) => done_of(held.free(page)),
-        Call::Front => match held.get(alloc, 1)? {
-            Ok(bytes) => front_of(&bytes),
-            Err(fault) => fault_of(fault),
-        },
-    })
+    match call {
+        Call::Get(page) => got(alloc, held, page),
+        Call::Put(page, byte) => put(alloc, held, page, byte),
+        Call::Extend => Ok(page_of(held.extend())),
+        Call::Alloc => Ok(page_of(held.alloc())),
+        Call::Free(page) => Ok(done_of(held.free(page))),
+        Call::Front => front(alloc, held),
+    }
 }
 
 // A page of zeros but for those of these patches that are its own.
@@ -250,23 +263,11 @@ fn held_of(alloc: Global, calls: &Calls) -> Result<Held, AllocError> {
     Ok(filling.into_held())
 }
 
-fn expect_call(
-    rt: &impl Abort,
-    alloc: Global,
-    held: &mut Held,
-    name: &str,
-    call: Call,
-    answer: Answer,
-) -> Result<(), AllocError> {
-    let given = answer_of(alloc, held, call)?;
-    assert_eq!(rt; given, answer, "{call:?} of {name}");
-    Ok(())
-}
-
 fn expect_calls(rt: &impl Abort, alloc: Global, calls: &Calls) -> Result<(), AllocError> {
     let mut held = held_of(alloc, calls)?;
-    for (call, answer) in calls.calls {
-        expect_call(rt, alloc, &mut held, calls.name, *call, *answer)?;
+    for (row, (call, answer)) in calls.calls.iter().enumerate() {
+        let given = answer_of(alloc, &mut held, *call)?;
+        expect(rt, calls.name, row as i64, given == *answer);
     }
     Ok(())
 }

@@ -4,13 +4,12 @@ ghost use Rattle.std.specs.Prelude.{◌≡◌, IfOk, None};
 ghost use Rattle.spe_space.specs.View.{map_refusal};
 
 use crate::tests::long::{link_of, payload_of};
-use crate::tests::space::Filling;
+use crate::tests::space::{Filling, expect};
 use spe_space::{MapSpace, SpaceFault, TreeFault, read_chain};
 use std::alloc::{AllocError, Global};
-use std::process::Abort;
 use std::test::Fail;
 
-#[derive(Clone, Copy, Debug, PartialEq, Eq)]
+#[derive(Clone, Copy, PartialEq, Eq)]
 enum Answer {
     Well,
     Corrupt(u32),
@@ -189,29 +188,29 @@ fn space_of(alloc: Global, chain: &Chain, payload: &[u8]) -> Result<MapSpace, Al
     Ok(filling.into_space())
 }
 
-fn answer_of(alloc: Global, chain: &Chain) -> Result<Answer, AllocError> {
-    let payload = payload_of(alloc, chain.bytes)?;
-    let mut space = space_of(alloc, chain, &payload)?;
-    Ok(
-        match read_chain(alloc, &mut space, chain.first, u64::from(chain.bytes)) {
-            Ok(bytes) if bytes.as_slice() == payload.as_slice() => Answer::Well,
-            Err(TreeFault::Corrupt { page }) => Answer::Corrupt(page),
-            Err(TreeFault::Space(SpaceFault::PageOut { page, pages: 5 })) => Answer::Out(page),
-            _ => Answer::Other,
-        },
-    )
+// What a chain of this first page says, and whether it is the payload.
+fn answer_in(alloc: Global, space: &mut MapSpace, first: u32, payload: &[u8]) -> Answer
+    requires { map_refusal space.old ≡ None }
+{
+    match read_chain(alloc, space, first, payload.len() as u64) {
+        Ok(bytes) if bytes.as_slice() == payload => Answer::Well,
+        Err(TreeFault::Corrupt { page }) => Answer::Corrupt(page),
+        Err(TreeFault::Space(SpaceFault::PageOut { page, pages: 5 })) => Answer::Out(page),
+        _ => Answer::Other,
+    }
 }
 
-fn expect_chain(rt: &impl Abort, alloc: Global, chain: &Chain) -> Result<(), AllocError> {
-    let answer = answer_of(alloc, chain)?;
-    assert_eq!(rt; answer, chain.answer, "{}", chain.name);
-    Ok(())
+fn holds(alloc: Global, chain: &Chain) -> Result<bool, AllocError> {
+    let payload = payload_of(alloc, chain.bytes)?;
+    let mut space = space_of(alloc, chain, &payload)?;
+    Ok(answer_in(alloc, &mut space, chain.first, &payload) == chain.answer)
 }
 
 #[test]
 fn chains(rt: HostRuntime) -> Result<(), Fail> {
     for chain in &CHAINS {
-        expect_chain(&rt, rt.alloc(), chain)?;
+        let holds = holds(rt.alloc(), chain)?;
+        expect(&rt, chain.name, 0, holds);
     }
     Ok(())
 }
@@ -228,16 +227,19 @@ fn load_links(alloc: Global, filling: &mut Filling, payload: &[u8]) -> Result<()
     Ok(())
 }
 
+fn linked(alloc: Global, payload: &[u8]) -> Result<MapSpace, AllocError>
+    ensures { IfOk result (λ s. map_refusal s ≡ None) }
+{
+    let mut filling = Filling::new(alloc, false, 1970)?;
+    load_links(alloc, &mut filling, payload)?;
+    Ok(filling.into_space())
+}
+
 // Whether the pages after page 1, which hold these million bytes, are read so; the last of the 1969
 // has 256.
 fn reads_million(alloc: Global, payload: &[u8]) -> Result<bool, AllocError> {
-    let mut filling = Filling::new(alloc, false, 1970)?;
-    load_links(alloc, &mut filling, payload)?;
-    let mut space = filling.into_space();
-    match read_chain(alloc, &mut space, 2, 1_000_000) {
-        Ok(bytes) => Ok(bytes.as_slice() == payload),
-        Err(_) => Ok(false),
-    }
+    let mut space = linked(alloc, payload)?;
+    Ok(answer_in(alloc, &mut space, 2, payload) == Answer::Well)
 }
 
 #[test]

@@ -1,15 +1,15 @@
 //! Damage, and the page that is named for it.
 
 use crate::tests::files::{File, Patch};
+use crate::tests::space::expect;
 use crate::tests::tables::space_of;
 use spe_search::{find, largest, range};
 use spe_space::{SpaceFault, TreeFault};
 use std::alloc::{AllocError, Global};
-use std::process::Abort;
 use std::test::Fail;
 
 // What a search says of a file.
-#[derive(Clone, Copy, Debug, PartialEq, Eq)]
+#[derive(Clone, Copy, PartialEq, Eq)]
 enum Answer {
     Well,
     Corrupt(u32),
@@ -243,17 +243,11 @@ fn holds(alloc: Global, damage: &Damage) -> Result<bool, AllocError> {
     Ok(found == damage.find && ranged == damage.range && last == damage.largest)
 }
 
-fn expect_damage(rt: &impl Abort, alloc: Global, damage: &Damage) -> Result<(), AllocError> {
-    let holds = holds(alloc, damage)?;
-    let name = damage.name;
-    assert!(rt; holds, "{name}");
-    Ok(())
-}
-
 #[test]
 fn damages(rt: HostRuntime) -> Result<(), Fail> {
     for damage in &DAMAGES {
-        expect_damage(&rt, rt.alloc(), damage)?;
+        let holds = holds(rt.alloc(), damage)?;
+        expect(&rt, damage.name, 0, holds);
     }
     Ok(())
 }

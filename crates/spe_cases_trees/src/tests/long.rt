@@ -3,7 +3,7 @@
 ghost use Rattle.std.specs.Prelude.{◌≡◌, IfOk, None};
 ghost use Rattle.spe_space.specs.View.{map_refusal};
 
-use crate::tests::space::{Filling, lay};
+use crate::tests::space::{Filling, expect, lay};
 use crate::tests::tables::is_found;
 use spe_search::{Pair, find, largest, range};
 use spe_space::{MapSpace, TreeFault};
@@ -180,17 +180,11 @@ fn long_holds(alloc: Global, long: &Long) -> Result<bool, AllocError> {
     Ok(found && ranged)
 }
 
-fn expect_long(rt: &impl Abort, alloc: Global, long: &Long) -> Result<(), AllocError> {
-    let holds = long_holds(alloc, long)?;
-    let bytes = long.payload;
-    assert!(rt; holds, "{bytes} bytes");
-    Ok(())
-}
-
 #[test]
 fn longs(rt: HostRuntime) -> Result<(), Fail> {
     for long in &LONGS {
-        expect_long(&rt, rt.alloc(), long)?;
+        let holds = long_holds(rt.alloc(), long)?;
+        expect(&rt, "payload", i64::from(long.payload), holds);
     }
     Ok(())
 }
@@ -273,7 +267,7 @@ fn expect_levels(
     wanted: Found,
 ) -> Result<(), AllocError> {
     let holds = levels_hold(alloc, levels, wanted)?;
-    assert!(rt; holds, "{levels}");
+    expect(rt, "levels", i64::from(levels), holds);
     Ok(())
 }
 
@@ -283,7 +277,8 @@ fn levels(rt: HostRuntime) -> Result<(), Fail> {
         expect_levels(&rt, rt.alloc(), levels, Found::Seven)?;
     }
     let deep = Found::Fault(TreeFault::Corrupt { page: 21 });
-    expect_levels(&rt, rt.alloc(), 21, deep)?;
-    expect_levels(&rt, rt.alloc(), 22, deep)?;
+    for levels in 21..23 {
+        expect_levels(&rt, rt.alloc(), levels, deep)?;
+    }
     Ok(())
 }

@@ -3,7 +3,7 @@
 ghost use Rattle.std.specs.Prelude.{◌≡◌, IfOk, None};
 ghost use Rattle.spe_space.specs.View.{map_refusal};
 
-use crate::tests::space::{Filling, lay};
+use crate::tests::space::{Filling, expect, lay};
 use spe_catalog::read_catalog;
 use spe_freelist::read_node;
 use spe_model::{Entry, TableDef};
@@ -116,34 +116,53 @@ fn put_entries(alloc: Global, out: &mut String, entries: &[Entry]) -> Result<(),
     Ok(())
 }
 
+// Adds the catalog of a space, nothing where there is none.
+fn put_catalog(alloc: Global, out: &mut String, space: &mut MapSpace) -> Result<(), AllocError>
+    requires { map_refusal space.old ≡ None }
+{
+    match read_catalog(alloc, space) {
+        Ok(catalog) => put_entries(alloc, out, catalog.as_slice()),
+        Err(_) => Ok(()),
+    }
+}
+
 // The catalog of a file of nine pages in one line, nothing where there is none.
 fn shown(alloc: Global, file: &[u8]) -> Result<String, AllocError> {
-    let mut space = space_of(alloc, 9, file)?;
     let mut found = String::new(alloc);
-    if let Ok(catalog) = read_catalog(alloc, &mut space) {
-        put_entries(alloc, &mut found, catalog.as_slice())?;
-    }
+    let mut space = space_of(alloc, 9, file)?;
+    put_catalog(alloc, &mut found, &mut space)?;
     Ok(found)
 }
 
-fn expect_tables<R: Abort>(
-    rt: &R,
-    alloc: Global,
-    file: &[u8],
-    tables: &str,
-) -> Result<(), AllocError> {
+// Whether that is this line.
+fn has_tables(alloc: Global, file: &[u8], tables: &str) -> Result<bool, AllocError> {
     let found = shown(alloc, file)?;
-    assert_eq!(rt; found.as_str(), tables);
-    Ok(())
+    Ok(found.as_str() == tables)
+}
+
+// The file of both parts with these changes.
+fn changed(alloc: Global, changes: &[Patch]) -> Result<Vec<u8>, AllocError> {
+    let mut file = file_of(alloc, 9, &KINDS)?;
+    lay_all(&mut file, &MORE);
+    lay_all(&mut file, changes);
+    Ok(file)
+}
+
+fn kinds_hold(alloc: Global) -> Result<bool, AllocError> {
+    let file = file_of(alloc, 9, &KINDS)?;
+    has_tables(alloc, &file, TABLES)
+}
+
+fn more_holds(alloc: Global) -> Result<bool, AllocError> {
+    let file = changed(alloc, &[])?;
+    has_tables(alloc, &file, MORE_TABLES)
 }
 
 #[test]
 fn catalog(rt: HostRuntime) -> Result<(), Fail> {
-    let alloc = rt.alloc();
-    let mut file = file_of(alloc, 9, &KINDS)?;
-    expect_tables(&rt, alloc, &file, TABLES)?;
-    lay_all(&mut file, &MORE);
-    expect_tables(&rt, alloc, &file, MORE_TABLES)?;
+    let kinds = kinds_hold(rt.alloc())?;
+    let more = more_holds(rt.alloc())?;
+    expect(&rt, "catalog", 9, kinds && more);
     Ok(())
 }
 
@@ -187,36 +206,23 @@ fn corrupt_in<T: Drop>(found: Result<T, TreeFault>) -> u32 {
     }
 }
 
-// The file of both parts with these changes.
-fn changed(alloc: Global, changes: &[Patch]) -> Result<Vec<u8>, AllocError> {
-    let mut file = file_of(alloc, 9, &KINDS)?;
-    lay_all(&mut file, &MORE);
-    lay_all(&mut file, changes);
-    Ok(file)
-}
-
 // The page that is named as corrupt in a file of nine pages, or 0.
 fn corrupt_of(alloc: Global, file: &[u8]) -> Result<u32, AllocError> {
     let mut space = space_of(alloc, 9, file)?;
     Ok(corrupt_in(read_catalog(alloc, &mut space)))
 }
 
-fn expect_corrupt<R: Abort>(
-    rt: &R,
-    alloc: Global,
-    name: &str,
-    changes: &[Patch],
-    page: u32,
-) -> Result<(), AllocError> {
-    let found = corrupt_of(alloc, &changed(alloc, changes)?)?;
-    assert!(rt; found == page, "{name}");
-    Ok(())
+// Whether this page is named in the file with these changes.
+fn is_corrupt(alloc: Global, changes: &[Patch], page: u32) -> Result<bool, AllocError> {
+    let file = changed(alloc, changes)?;
+    Ok(corrupt_of(alloc, &file)? == page)
 }
 
 #[test]
 fn damages(rt: HostRuntime) -> Result<(), Fail> {
     for (name, changes, page) in &DAMAGES {
-        expect_corrupt(&rt, rt.alloc(), *name, *changes, *page)?;
+        let holds = is_corrupt(rt.alloc(), *changes, *page)?;
+        expect(&rt, *name, 0, holds);
     }
     Ok(())
 }
@@ -242,25 +248,18 @@ fn leaf_in(alloc: Global, file: &[u8], rowid: i64) -> Result<u32, AllocError> {
     Ok(leaf_of(alloc, &mut space, rowid))
 }
 
-fn expect_leaf<R: Abort>(
-    rt: &R,
-    alloc: Global,
-    file: &[u8],
-    rowid: i64,
-    page: u32,
-) -> Result<(), AllocError> {
-    let found = leaf_in(alloc, file, rowid)?;
-    assert!(rt; found == page, "{rowid}");
+fn expect_leaves(rt: &impl Abort, alloc: Global, file: &[u8]) -> Result<(), AllocError> {
+    for (rowid, page) in &LEAVES {
+        let found = leaf_in(alloc, file, *rowid)?;
+        expect(rt, "leaf", *rowid, found == *page);
+    }
     Ok(())
 }
 
 #[test]
 fn leaves(rt: HostRuntime) -> Result<(), Fail> {
-    let mut file = file_of(rt.alloc(), 9, &KINDS)?;
-    lay_all(&mut file, &MORE);
-    for (rowid, page) in &LEAVES {
-        expect_leaf(&rt, rt.alloc(), &file, *rowid, *page)?;
-    }
+    let file = changed(rt.alloc(), &[])?;
+    expect_leaves(&rt, rt.alloc(), &file)?;
     Ok(())
 }
 
@@ -290,21 +289,11 @@ fn node_holds(alloc: Global, front: &'static [u8], firsts: &[u32]) -> Result<boo
     }
 }
 
-fn expect_node<R: Abort>(
-    rt: &R,
-    alloc: Global,
-    front: &'static [u8],
-    firsts: &[u32],
-) -> Result<(), AllocError> {
-    let holds = node_holds(alloc, front, firsts)?;
-    assert!(rt; holds, "{firsts:?}");
-    Ok(())
-}
-
 #[test]
 fn nodes(rt: HostRuntime) -> Result<(), Fail> {
-    for (front, firsts) in &NODES {
-        expect_node(&rt, rt.alloc(), *front, *firsts)?;
+    for (row, (front, firsts)) in NODES.iter().enumerate() {
+        let holds = node_holds(rt.alloc(), *front, *firsts)?;
+        expect(&rt, "node page", row as i64, holds);
     }
     Ok(())
 }

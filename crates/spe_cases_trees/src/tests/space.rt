@@ -5,6 +5,7 @@ ghost use Rattle.spe_space.specs.View.{map_size, map_count, map_seen, map_refusa
 
 use spe_space::{MapSpace, PageSpace, Pages, SpaceFault};
 use std::alloc::{AllocError, Global};
+use std::process::Abort;
 
 /// Lays bytes over a page from a place on, as far as they fit.
 pub fn lay(page: &mut [u8], at: usize, bytes: &[u8]) {
@@ -13,6 +14,11 @@ pub fn lay(page: &mut [u8], at: usize, bytes: &[u8]) {
             *place = *byte;
         }
     }
+}
+
+/// Expects that a row of a table holds.
+pub fn expect(rt: &impl Abort, name: &str, row: i64, holds: bool) {
+    assert!(rt; holds, "{name} {row}");
 }
 
 /// A space that is being filled.

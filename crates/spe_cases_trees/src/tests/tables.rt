@@ -4,7 +4,7 @@ ghost use Rattle.std.specs.Prelude.{◌≡◌, IfOk, None};
 ghost use Rattle.spe_space.specs.View.{map_refusal};
 
 use crate::tests::files::{File, TABLES, Table};
-use crate::tests::space::{Filling, lay};
+use crate::tests::space::{Filling, expect, lay};
 use spe_model::Bytes;
 use spe_search::{Pair, find, largest, range};
 use spe_space::{MapSpace, TreeFault};
@@ -63,18 +63,6 @@ fn finds(
     Ok(is_found(find(alloc, &mut space, table.root, rowid), payload))
 }
 
-fn expect_found(
-    rt: &impl Abort,
-    alloc: Global,
-    table: &Table,
-    rowid: i64,
-    payload: Option<&[u8]>,
-) -> Result<(), AllocError> {
-    let holds = finds(alloc, table, rowid, payload)?;
-    assert!(rt; holds, "{rowid} in {}", table.name);
-    Ok(())
-}
-
 // Whether `range` gives these rows.
 fn ranges(
     alloc: Global,
@@ -89,18 +77,6 @@ fn ranges(
     }
 }
 
-fn expect_range(
-    rt: &impl Abort,
-    alloc: Global,
-    table: &Table,
-    bounds: (i64, i64),
-    rows: &[(i64, &[u8])],
-) -> Result<(), AllocError> {
-    let holds = ranges(alloc, table, bounds, rows)?;
-    assert!(rt; holds, "{bounds:?} in {}", table.name);
-    Ok(())
-}
-
 // Whether `largest` gives the last rowid.
 fn ends(alloc: Global, table: &Table) -> Result<bool, AllocError> {
     let mut space = space_of(alloc, &table.file)?;
@@ -108,52 +84,50 @@ fn ends(alloc: Global, table: &Table) -> Result<bool, AllocError> {
     Ok(largest(alloc, &mut space, table.root) == Ok(last))
 }
 
-fn expect_largest(rt: &impl Abort, alloc: Global, table: &Table) -> Result<(), AllocError> {
-    let holds = ends(alloc, table)?;
-    let name = table.name;
-    assert!(rt; holds, "{name}");
-    Ok(())
-}
-
-// The rows of a table from one place up to another, without it, lie between two rowids.
-fn expect_part(
-    rt: &impl Abort,
+// Whether the rows of a table from one place up to another, without it, lie between two rowids.
+fn has_part(
     alloc: Global,
     table: &Table,
-    part: (i64, i64, usize, usize),
-) -> Result<(), AllocError> {
-    let (low, high, from, to) = part;
-    let holds = match table.rows.get(from..to) {
-        Some(rows) => ranges(alloc, table, (low, high), rows)?,
-        None => false,
-    };
-    assert!(rt; holds, "{part:?} in {}", table.name);
-    Ok(())
+    part: &(i64, i64, usize, usize),
+) -> Result<bool, AllocError> {
+    let (low, high, from, to) = *part;
+    match table.rows.get(from..to) {
+        Some(rows) => ranges(alloc, table, (low, high), rows),
+        None => Ok(false),
+    }
 }
 
 fn expect_rows(rt: &impl Abort, alloc: Global, table: &Table) -> Result<(), AllocError> {
     for (rowid, payload) in table.rows {
-        expect_found(rt, alloc, table, *rowid, Some(*payload))?;
+        let holds = finds(alloc, table, *rowid, Some(*payload))?;
+        expect(rt, table.name, *rowid, holds);
     }
     Ok(())
 }
 
 fn expect_gaps(rt: &impl Abort, alloc: Global, table: &Table) -> Result<(), AllocError> {
     for rowid in table.gaps {
-        expect_found(rt, alloc, table, *rowid, None)?;
+        let holds = finds(alloc, table, *rowid, None)?;
+        expect(rt, table.name, *rowid, holds);
+    }
+    Ok(())
+}
+
+fn expect_parts(rt: &impl Abort, alloc: Global, table: &Table) -> Result<(), AllocError> {
+    for (row, part) in table.parts.iter().enumerate() {
+        let holds = has_part(alloc, table, part)?;
+        expect(rt, table.name, row as i64, holds);
     }
     Ok(())
 }
 
 fn expect_table(rt: &impl Abort, alloc: Global, table: &Table) -> Result<(), AllocError> {
-    expect_range(rt, alloc, table, (i64::MIN, i64::MAX), table.rows)?;
-    expect_largest(rt, alloc, table)?;
+    let all = ranges(alloc, table, (i64::MIN, i64::MAX), table.rows)?;
+    let last = ends(alloc, table)?;
+    expect(rt, table.name, 0, all && last);
     expect_rows(rt, alloc, table)?;
     expect_gaps(rt, alloc, table)?;
-    for part in table.parts {
-        expect_part(rt, alloc, table, *part)?;
-    }
-    Ok(())
+    expect_parts(rt, alloc, table)
 }
 
 #[test]

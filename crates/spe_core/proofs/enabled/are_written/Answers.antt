@@ -1,5 +1,5 @@
 use Rattle.std.proofs.Common.{◌∙◌, ℕ, rules}
-use Rattle.spe_core.specs.Sheets.{has_sheet}
+use Rattle.spe_stored.specs.Sheets.{has_sheet}
 use Rattle.spe_core.proofs.EnabledLemmas.{all_next}
 use Rattle.spe_core.proofs.enabled.are_written.Goals as goal
 

@@ -1,7 +1,7 @@
 use Rattle.std.proofs.Common.{◌≡◌, ◌+◌, ◌-◌, ℕ}
 use Rattle.std.specs.List.{list_all}
 use Rattle.spe_model.specs.Journal.{numbers_from}
-use Rattle.spe_core.specs.Sheets.{has_sheet}
+use Rattle.spe_stored.specs.Sheets.{has_sheet}
 use Rattle.spe_core.proofs.enabled.are_written.Given as goal
 
 abbrev pub invariant-loop-page : goal.invariant-loop-page

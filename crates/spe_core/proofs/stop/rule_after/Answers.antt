@@ -1,7 +1,7 @@
 use Rattle.std.proofs.Common.{◌≤◌, sym, subst, length}
 use Rattle.spe_model.specs.declared.file.FileNo.TheVariants.{Database}
 use Rattle.spe_model.specs.Content.{Content, bytes_of}
-use Rattle.spe_core.proofs.FilesLemmas.{front_stays}
+use Rattle.spe_stored.proofs.FilesLemmas.{front_stays}
 use Rattle.spe_core.proofs.stop.rule_after.Goals as goal
 
 pub page_size-requires : goal.page_size-requires

@@ -46,7 +46,7 @@ returns-in-Err-change_rows-clause-carries g c = λ pages t agrees is same.
     let s = c.args.space.now in
     let mid = c.chosen_pairs.new.space in
     fault_rows g.S.Pages s mid pages t _ _ (Space Memory) c.shifts_law.ensures.spares_more
-    (chosen_gets g.S.Pages s mid pages c.args.entry.now.root t c.args.conds.now c.shifts_law.ensures.reads is agrees c.chosen_pairs.ensures.kept c.chosen_pairs.ensures.adds) tt
+    (chosen_gets g.S.Pages s mid pages c.args.entry.now.root t c.args.conds.now c.shifts_law.ensures.reads is agrees c.chosen_pairs.ensures.kept c.chosen_pairs.ensures.adds) (tt, tt)
 
 pub returns-in-Ok-Long-clause-carries : goal.returns-in-Ok-Long-clause-carries
 returns-in-Ok-Long-clause-carries g c = λ pages t agrees is same.

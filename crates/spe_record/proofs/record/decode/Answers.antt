@@ -1,4 +1,4 @@
-use Rattle.std.proofs.Common.{◌∙◌, ◌<◌, ◌≤◌, arith, length, subst, sym}
+use Rattle.std.proofs.Common.{◌∙◌, subst, sym}
 use Rattle.spe_record.specs.Answers.{GivesRecord}
 use Rattle.spe_record.proofs.CountedLemmas.{record_is, types_is}
 use Rattle.spe_record.proofs.record.decode.Goals as goal

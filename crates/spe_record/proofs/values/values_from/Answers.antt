@@ -1,6 +1,5 @@
-use Rattle.std.proofs.Common.{◌≡◌, ◌∙◌, ◌<◌, ◌≤◌, arith, length, sym}
+use Rattle.std.proofs.Common.{◌∙◌, arith, sym}
 use Rattle.std.proofs.lemmas.Bool.Decides.{nat_tests}
-use Rattle.spe_model.specs.Serial.{size_of}
 use Rattle.spe_record.proofs.ValuesLemmas.{fills_first, fills_none, fills_rest, texts_turn, values_end, values_first, values_stop}
 use Rattle.spe_record.proofs.values.values_from.Goals as goal
 

@@ -13,11 +13,11 @@ invariant-loop-left g l = record {
   size : l.size ≡ l.page_size + 8;
   page : length l.buf ≡ l.page_size + 8;
   from : 512 ≤ l.at;
-  reach : l.at + l.left ≡ 512 + (l.end - 512);
+  reach : l.at + l.left ≡ 512 + (l.journal.length - 512);
   few : l.made * 520 + l.left ≤ 2 ^ 64;
   stays : Stays (g.D.Disk.told l.fn.disk) (g.D.Disk.told l.disk);
-  restored : IfTold (g.D.Disk.told l.fn.disk) (IsDue l.id l.nonce l.page_size l.pages l.at (g.D.Disk.told l.fn.disk) (g.D.Disk.told l.disk) l.fn.holders l.holders l.made);
-  begun : IfTold (g.D.Disk.told l.fn.disk) (HasRecordsLeft l.id l.nonce l.page_size l.pages l.at (g.D.Disk.told l.fn.disk) (g.D.Disk.told l.disk) l.fn.holders l.holders);
+  restored : IfTold (g.D.Disk.told l.fn.disk) (IsDue l.journal.id l.journal.nonce l.page_size l.pages l.at (g.D.Disk.told l.fn.disk) (g.D.Disk.told l.disk) l.fn.holders l.holders l.made);
+  begun : IfTold (g.D.Disk.told l.fn.disk) (HasRecordsLeft l.journal.id l.journal.nonce l.page_size l.pages l.at (g.D.Disk.told l.fn.disk) (g.D.Disk.told l.disk) l.fn.holders l.holders);
 }
 
 abbrev pub decreases-loop-left : goal.decreases-loop-left

@@ -1,4 +1,3 @@
-use Rattle.std.proofs.Common.{sym}
 use Rattle.spe_render.proofs.PassesLemmas.{cut_off, last_part}
 use Rattle.spe_render.proofs.TextLemmas.{quoted_none, quoted_run}
 use Rattle.spe_render.proofs.values.put_quoted.Goals as goal

@@ -3,6 +3,7 @@ use Rattle.std.specs.Prelude.{is_none}
 use Rattle.spe_model.specs.Paging.{Given}
 use Rattle.spe_store.specs.Event.{seen_in}
 use Rattle.spe_session.specs.Working.{BeginsSo}
+use Rattle.spe_session.proofs.CauseLemmas.{never_read}
 use Rattle.spe_session.proofs.EndingLemmas.{carries_written, fails_written, none_laid, written_laid}
 use Rattle.spe_session.proofs.FrontLemmas.{no_zero}
 use Rattle.spe_session.proofs.ending.put_all.Goals as goal
@@ -36,3 +37,7 @@ pub returns-in-Ok-save_all-clause-fails : goal.returns-in-Ok-save_all-clause-fai
 returns-in-Ok-save_all-clause-fails g c =
     let e = c.in-Ok-save_all.ensures in
     fails_written c.write_all.result c.args.pass.now.id c.save_all.new.pass.id c.args.store.now c.save_all.new.store c.write_all.new.store e.id e.carries c.write_all.ensures.writes (c.write_all.ensures.sized ∙ e.sized) c.requires.alone c.write_all.ensures.stops
+
+pub returns-in-Ok-save_all-clause-reads : goal.returns-in-Ok-save_all-clause-reads
+returns-in-Ok-save_all-clause-reads g c =
+    never_read g.N.Opening.opened c.write_all.new.store c.args.store.now.desk.reads c.write_all.new.store.desk.reads c.write_all.result c.write_all.ensures.fault c.write_all.ensures.stops

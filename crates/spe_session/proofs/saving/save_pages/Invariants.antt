@@ -12,6 +12,7 @@ invariant-loop-page g l = record {
   id : l.pass.id ≡ l.fn.pass.id;
   sized : l.store.page_size ≡ l.fn.store.page_size;
   counted : l.store.count ≡ l.fn.store.count;
+  reads : l.fn.store.desk.reads ≤ l.store.desk.reads;
   same : l.count ≡ l.fn.store.count;
   some : 1 ≤ l.next;
   within : l.next ≤ l.count + 1;

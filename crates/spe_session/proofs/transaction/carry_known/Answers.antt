@@ -1,10 +1,7 @@
-use Rattle.std.proofs.Common.{◌≡◌, ◌∙◌, ℕ, None, refl, sym}
-use Rattle.spe_exec.specs.Justifying.{JustifiedIn, asked_nothing}
-use Rattle.spe_session.specs.Carried.{WhereBegun}
-use Rattle.spe_session.specs.Pages.{laid_in}
+use Rattle.std.proofs.Common.{◌∙◌, refl, sym}
 use Rattle.spe_session.proofs.PageLemmas.{laid_alike}
 use Rattle.spe_session.proofs.StartLemmas.{lists_stand, started}
-use Rattle.spe_session.proofs.TransactionLemmas.{on_ok, short_of}
+use Rattle.spe_session.proofs.TransactionLemmas.{on_ok}
 use Rattle.spe_session.proofs.transaction.carry_known.Goals as goal
 
 pub carry_out-requires-clause-lists : goal.carry_out-requires-clause-lists

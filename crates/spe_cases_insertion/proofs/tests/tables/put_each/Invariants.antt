@@ -1,6 +1,5 @@
 use Rattle.std.proofs.Common.{◌≡◌, None}
-use Rattle.spe_space.specs.View.{map_refusal}
 use Rattle.spe_cases_insertion.proofs.tests.tables.put_each.Given as goal
 
 abbrev pub invariant-loop-turn : goal.invariant-loop-turn
-invariant-loop-turn l = map_refusal l.space ≡ None
+invariant-loop-turn g l = g.S.Pages.refusal l.space ≡ None

@@ -1,7 +1,7 @@
 use Rattle.std.proofs.Common.{◌∙◌, ap}
 use Rattle.std.specs.Prelude.{is_some}
 use Rattle.spe_core.specs.Enabled.{is_changed}
-use Rattle.spe_core.proofs.SheetsLemmas.{found_any, some_shown}
+use Rattle.spe_stored.proofs.SheetsLemmas.{found_any, some_shown}
 use Rattle.spe_core.proofs.live.Live.has_changed.Goals as goal
 
 pub returns : goal.returns

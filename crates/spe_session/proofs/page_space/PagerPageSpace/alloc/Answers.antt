@@ -1,10 +1,8 @@
-use Rattle.std.proofs.Common.{◌≡◌, ℕ, None, Option, refl, subst, sym, false}
-use Rattle.spe_model.specs.Paging.{Agrees, Given, Paging}
+use Rattle.std.proofs.Common.{◌≡◌, ℕ, None, refl, subst, false}
+use Rattle.spe_model.specs.Paging.{Agrees, Paging}
 use Rattle.spe_space.specs.Calls.{sight}
-use Rattle.spe_space.specs.Free.{IsLaterPage}
 use Rattle.spe_space.specs.Outcome.{OnFull}
 use Rattle.spe_space.specs.Space.{Each}
-use Rattle.spe_space.specs.declared.fault.TreeFault.{TreeFault}
 use Rattle.spe_freelist.specs.Steps.{OnFault, OnFullOf, TakesNot}
 use Rattle.spe_store.specs.Event.{seen_in}
 use Rattle.spe_store.specs.Pass.{Pass}
@@ -13,7 +11,7 @@ use Rattle.spe_session.specs.contracts.paging.PagerPages.TheImpl.{ghosts}
 use Rattle.std.specs.Prelude.{Err}
 use Rattle.spe_session.specs.Lists.{next_in}
 use Rattle.spe_session.specs.Facts.{some_agrees}
-use Rattle.spe_session.proofs.AllocLemmas.{Spaces, alloc_fits, none_next}
+use Rattle.spe_session.proofs.AllocLemmas.{Spaces, alloc_fits}
 use Rattle.spe_session.proofs.AnswerLemmas.{Changes, Takes, fail_free, fail_stands, front_each, laid_each, never_each, full_none, seen_each, sure_each, take_allots, take_counted, take_inside, take_next, take_stands}
 use Rattle.spe_session.proofs.page_space.PagerPageSpace.alloc.Goals as goal
 

@@ -1,14 +1,11 @@
-use Rattle.std.proofs.Common.{ap, ◌≡◌, ℕ, None, Option, refl, subst, sym, false}
-use Rattle.spe_model.specs.Paging.{Agrees, Given, Paging}
-use Rattle.spe_space.specs.Free.{IsLaterPage}
+use Rattle.std.proofs.Common.{ap, ◌≡◌, ℕ, refl, subst, false}
+use Rattle.spe_model.specs.Paging.{Agrees}
 use Rattle.spe_space.specs.Space.{Each}
 use Rattle.spe_space.specs.declared.fault.TreeFault.{TreeFault}
-use Rattle.spe_freelist.specs.Steps.{GivesNot, OnFault}
 use Rattle.spe_store.specs.Event.{seen_in}
 use Rattle.spe_store.specs.Pass.{Pass}
-use Rattle.spe_freelist.specs.Place.{IsLikelyOfTree, ListsStay, WhereListed}
+use Rattle.spe_freelist.specs.Place.{ListsStay, WhereListed}
 use Rattle.spe_session.specs.contracts.paging.PagerPages.TheImpl.{ghosts}
-use Rattle.std.specs.Prelude.{Err}
 use Rattle.spe_space.specs.Space.{MayBeFreed}
 use Rattle.spe_space.specs.Calls.{sight}
 use Rattle.spe_space.specs.Front.{number_in}
@@ -20,7 +17,7 @@ use Rattle.spe_space.specs.Space.{IsForFree}
 use Rattle.spe_session.specs.Pages.{laid_in}
 use Rattle.spe_session.proofs.PageLemmas.{differ_same, laid_alike}
 use Rattle.spe_session.proofs.AllocLemmas.{Spaces}
-use Rattle.spe_session.proofs.AnswerLemmas.{Gives, free_fits, give_freed, give_laid, give_seen, give_stands, ungiven_free, ungiven_likely, ungiven_stands}
+use Rattle.spe_session.proofs.AnswerLemmas.{Gives, give_freed, give_laid, give_seen, give_stands, ungiven_free, ungiven_likely, ungiven_stands}
 use Rattle.spe_session.proofs.page_space.PagerPageSpace.free.Goals as goal
 
 spaces : (g : _) (c : goal.In-Ok g) → Spaces (ghosts g.row.D g.row.N g.row.K g.D.Disk g.D.Disk-dict g.N.Opening g.N.Opening-dict g.K.Beginning g.K.Beginning-dict) g.K.Beginning.begun.first

@@ -7,6 +7,7 @@ use Rattle.spe_session.specs.Alone.{IsAlone}
 use Rattle.spe_session.specs.Ending.{AddsEntry, EndsServed, count_after}
 use Rattle.spe_session.specs.Pages.{laid_in}
 use Rattle.spe_session.specs.Working.{BeginsSo}
+use Rattle.spe_session.proofs.CauseLemmas.{ended_reads}
 use Rattle.spe_session.proofs.CommitLemmas.{begins_so, ends_may, ends_right}
 use Rattle.spe_session.proofs.FrontLemmas.{put_front}
 use Rattle.spe_session.proofs.PageLemmas.{laid_fresh}
@@ -75,3 +76,6 @@ returns-in-Ok-clause-counted g c =
     let new = c.end.result.store.count in
     subst (λ (n : ℕ). OnOk c.end.result.answer (new ≡ count_after laid n)) (e.counted ∙ s.counted)
     (subst (λ (w : PageMap). OnOk c.end.result.answer (new ≡ count_after w st.count)) written c.end.ensures.counted)
+
+pub returns-in-Ok-clause-reads : goal.returns-in-Ok-clause-reads
+returns-in-Ok-clause-reads g c = ended_reads g.K.Beginning.begun.reads _ c.end.result.answer c.end.ensures.stop

@@ -1,4 +1,5 @@
-use Rattle.std.proofs.Common.{arith}
+use Rattle.std.proofs.Common.{◌^◌, arith}
+use Rattle.spe_session.proofs.CauseLemmas.{most_pages}
 use Rattle.spe_session.proofs.FrontLemmas.{none_front, none_numbered}
 use Rattle.spe_session.proofs.pager.Pager.over_pass.Goals as goal
 
@@ -7,3 +8,6 @@ invariant_of-result-clause-fronted g c = none_front c.none-2.result c.none.resul
 
 pub invariant_of-result-clause-numbered : goal.invariant_of-result-clause-numbered
 invariant_of-result-clause-numbered g c = none_numbered c.args.store.count c.count-pages.result c.none-2.result c.none-2.ensures (omega (arith, c.count-pages.ensures))
+
+pub invariant_of-result-clause-most : goal.invariant_of-result-clause-most
+invariant_of-result-clause-most g c = most_pages (2 ^ 30) c.args.found.now.page_size (omega (arith, c.requires.limits.low))

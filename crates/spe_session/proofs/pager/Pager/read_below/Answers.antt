@@ -1,8 +1,9 @@
-use Rattle.std.proofs.Common.{◌≡◌, ◌∙◌, Option, option_to_list, ap, sym, subst, length}
+use Rattle.std.proofs.Common.{◌≡◌, ◌∙◌, Option, arith, option_to_list, ap, sym, subst, length}
 use Rattle.spe_store.specs.Event.{seen_in}
 use Rattle.spe_store.specs.Pass.{Pass}
 use Rattle.spe_model.specs.Paging.{Paging}
 use Rattle.spe_session.specs.Below.{IsBelow, below_of}
+use Rattle.spe_session.proofs.CauseLemmas.{never_full, read_comes, rose_more}
 use Rattle.spe_session.proofs.FrontLemmas.{read_front}
 use Rattle.spe_session.proofs.PageLemmas.{below_kept, gone_same, seen_kept, sized_kept}
 use Rattle.spe_session.proofs.pager.Pager.read_below.Goals as goal
@@ -50,3 +51,27 @@ pub invariant_of-self-in-Err-clause-clean_sized : goal.invariant_of-self-in-Err-
 invariant_of-self-in-Err-clause-clean_sized g c = λ n bytes there.
     let s = c.args.self.now in
     s.clean_sized n bytes (sym (gone_same c.args.page _ s.clean _ c.remove.new.self c.requires.fresh c.in_ok-put.ensures.ok c.remove.ensures n) ∙ there)
+
+pub refuse-requires-clause-caused : goal.refuse-requires-clause-caused
+refuse-requires-clause-caused g c =
+    let s = c.args.self.now in
+    read_comes g.K.Beginning.begun.reads s.store.desk.reads c.read_once.new.store.desk.reads s.later c.in-Err.ensures.cause c.in-Err.fault
+
+pub refuse-requires-clause-filled : goal.refuse-requires-clause-filled
+refuse-requires-clause-filled g c = never_full c.args.self.now.size c.in-Err.fault c.in-Err.ensures.fault
+
+pub invariant_of-self-in-Err-clause-later : goal.invariant_of-self-in-Err-clause-later
+invariant_of-self-in-Err-clause-later g c = omega (arith, c.args.self.now.later, c.read_once.ensures.later)
+
+pub invariant_of-self-in-Err-clause-caused : goal.invariant_of-self-in-Err-clause-caused
+invariant_of-self-in-Err-clause-caused g c = λ is.
+    let s = c.args.self.now in
+    rose_more g.K.Beginning.begun.reads s.store.desk.reads c.read_once.new.store.desk.reads c.read_once.ensures.later (s.caused is)
+
+pub invariant_of-self-in-Ok-clause-later : goal.invariant_of-self-in-Ok-clause-later
+invariant_of-self-in-Ok-clause-later g c = omega (arith, c.args.self.now.later, c.read_once.ensures.later)
+
+pub invariant_of-self-in-Ok-clause-caused : goal.invariant_of-self-in-Ok-clause-caused
+invariant_of-self-in-Ok-clause-caused g c = λ is.
+    let s = c.args.self.now in
+    rose_more g.K.Beginning.begun.reads s.store.desk.reads c.read_once.new.store.desk.reads c.read_once.ensures.later (s.caused is)

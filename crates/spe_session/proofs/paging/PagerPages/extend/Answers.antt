@@ -7,6 +7,7 @@ use Rattle.spe_store.specs.Event.{seen_in}
 use Rattle.spe_store.specs.Pass.{Pass}
 use Rattle.spe_session.specs.Lists.{AreInOrder, is_listed}
 use Rattle.spe_session.specs.Pages.{Sets, laid_in}
+use Rattle.spe_session.proofs.CauseLemmas.{full_room}
 use Rattle.spe_session.proofs.StandLemmas.{grown_stands}
 use Rattle.spe_session.proofs.paging.PagerPages.extend.Goals as goal
 
@@ -36,3 +37,8 @@ returns-clause-stands g c = λ pages agrees stood.
     let e = c.in_ok-grow.ensures in
     let w = c.in_ok-show.ensures in
     rw (e.store, w.base, e.more, w.pages, e.size, w.size, e.usable, w.usable) (grown g c pages agrees stood).0
+
+pub refuse-requires-clause-filled : goal.refuse-requires-clause-filled
+refuse-requires-clause-filled g c =
+    let s = c.args.self.now in
+    full_room s.limit s.pages s.size s.most (c.has_room.ensures.full (search rules))

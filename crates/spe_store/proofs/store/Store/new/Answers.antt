@@ -1,8 +1,8 @@
-use Rattle.std.proofs.Common.{◌∙◌, ◌+◌, ℕ, subst, sym, refl, ap, arith, List}
+use Rattle.std.proofs.Common.{◌∙◌, ◌+◌, ℕ, subst, sym, refl, ap, arith, List, Err, Ok}
 use Rattle.spe_model.specs.declared.recovery.Recovered.{Recovered}
 use Rattle.spe_store.specs.Event.{Event}
 use Rattle.spe_store.specs.Store.{IsStored}
-use Rattle.spe_store.proofs.NewLemmas.{begun, cuts_begun, cuts_failed, cuts_first, new_stored}
+use Rattle.spe_store.proofs.NewLemmas.{begun, cuts_begun, cuts_failed, cuts_first, new_stored, same_first}
 use Rattle.spe_store.proofs.store.Store.new.Goals as goal
 
 pub returns-in_default-clause-cuts : goal.returns-in_default-clause-cuts
@@ -32,3 +32,9 @@ invariant_of-result g c =
     _ _ c.in-Ok-make_journals.made c.requires.opened c.in-Ok-make_journals.ensures.made b c.new-desk.result _ _ c.new-desk.ensures
     (omega (arith, c.in-Ok-make_journals.ensures.readings, c.requires.reads))
     (let later = c.in-Ok-make_journals.ensures.cause.later in omega (arith, c.requires.faults)) c.none.result c.none.ensures)
+
+pub returns-in-Err-clause-same : goal.returns-in-Err-clause-same
+returns-in-Err-clause-same g c = same_first _ _ _ (Err c.in-Err.field-0) c.requires.first c.in-Err.ensures.made
+
+pub returns-in_default-checked_add-clause-same : goal.returns-in_default-checked_add-clause-same
+returns-in_default-checked_add-clause-same g c = same_first _ _ _ (Ok c.in-Ok-make_journals.made) c.requires.first c.in-Ok-make_journals.ensures.made

@@ -1,0 +1,5 @@
+mod ListLemmas
+mod EntryLemmas
+mod StepLemmas
+mod EndLemmas
+mod TurnLemmas

@@ -1,0 +1,9 @@
+pub mod ListLemmas
+pub mod BelowLemmas
+pub mod HeightLemmas
+pub mod TableLemmas
+pub mod EntryLemmas
+pub mod OpenLemmas
+pub mod NodeLemmas
+pub mod NumberLemmas
+pub mod SharedLemmas

@@ -1,5 +1,0 @@
-use Rattle.spe_render.proofs.PassesLemmas.{then}
-use Rattle.spe_render.proofs.values.put_barred_value.Goals as goal
-
-pub returns : goal.returns
-returns g c = then c.byte.ensures c.put_value.ensures

@@ -1,0 +1,5 @@
+pub mod Sheets
+pub mod Shown
+pub mod Stored
+pub mod Kept
+pub mod Plan
