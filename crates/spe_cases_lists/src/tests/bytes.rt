@@ -22,9 +22,10 @@ fn has_ends(bytes: &[u8], length: usize, front: &[u8], back: &[u8]) -> bool {
 
 fn node_holds(alloc: Global) -> Result<bool, AllocError> {
     let node = node_page(alloc, &[4, 5], 480, &[7; 512])?;
-    Ok(node
-        .as_slice()
-        .starts_with(b"\x00\x00\x00\x02\x00\x00\x00\x04\x00\x00\x00\x05"))
+    Ok(
+        node.as_slice()
+            .starts_with(b"\x00\x00\x00\x02\x00\x00\x00\x04\x00\x00\x00\x05"),
+    )
 }
 
 // A trunk with leaves, behind which the bytes that no list uses stay.
