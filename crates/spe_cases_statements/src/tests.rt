@@ -1,4 +1,5 @@
 mod build;
+mod deletes;
 mod files;
 mod inserts;
 mod order;

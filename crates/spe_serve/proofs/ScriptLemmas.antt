@@ -4,12 +4,10 @@ use Rattle.std.specs.Prelude.{◌&&◌, All}
 use Rattle.std.specs.List.{list_all}
 use Rattle.std.proofs.lemmas.Grind.{reverse_onto}
 use Rattle.std.proofs.lemmas.List.Elements.{All-cons, All-nil}
-use Rattle.spe_model.specs.declared.statement.Statement.{Statement}
 use Rattle.spe_model.specs.declared.transaction.Tx.{Tx}
 use Rattle.spe_model.specs.declared.transaction.TxKind.{TxKind}
 use Rattle.spe_model.specs.declared.transaction.TxKind.TheVariants.{ReadWrite, ReadOnly}
 use Rattle.spe_disk.specs.Scripts.{Texts}
-use Rattle.spe_exec.specs.Writes.{is_built}
 use Rattle.spe_script.specs.declared.fault.ScriptError.{ScriptError}
 use Rattle.spe_script.specs.declared.fault.ScriptKind.{ScriptKind}
 use Rattle.spe_script.specs.declared.fault.ScriptKind.TheVariants as kinds
@@ -49,16 +47,12 @@ both_true true false is = absurd cc
 both_true false b is = absurd cc
 
 -- transactions that are carried out may run
-all_built : (statements : List Statement) → list_all is_built statements ≡ true → All (λ (s : Statement). is_built s ≡ true) statements
-all_built [] is = All-nil (λ (s : Statement). is_built s ≡ true)
-all_built (s ∷ ss) is = let both = both_true (is_built s) (list_all is_built ss) is in All-cons (λ (t : Statement). is_built t ≡ true) s ss both.0 (all_built ss both.1)
-
 writing : (kind : TxKind) → may_write kind ≡ true → kind ≡ ReadWrite
 writing ReadWrite is = refl
 writing ReadOnly is = absurd cc
 
 may_run : (t : Tx) → is_carried_out t ≡ true → MayRun t
-may_run t is = let both = both_true (may_write t.kind) (list_all is_built t.statements) is in record { writes = writing t.kind both.0; built = all_built t.statements both.1 }
+may_run t is = record { writes = writing t.kind is }
 
 pub all_may_run : (body : List Tx) → list_all is_carried_out body ≡ true → All MayRun body
 all_may_run [] is = All-nil MayRun

@@ -1,10 +1,9 @@
 -- What the scripts of clients ask for: the transactions of each client, or the first reason why no client is served.
-use Rattle.std.specs.Prelude.{◌≡◌, ℕ, ◌+◌, Bool, true, false, ◌&&◌, List, [], ◌∷◌, ◌++◌, length, map, Option, Some, None, Result, Ok, Err, Vec, codes, if◌then◌else◌}
+use Rattle.std.specs.Prelude.{◌≡◌, ℕ, ◌+◌, Bool, true, false, List, [], ◌∷◌, ◌++◌, length, map, Option, Some, None, Result, Ok, Err, Vec, codes, if◌then◌else◌}
 use Rattle.std.specs.List.{list_all}
 use Rattle.std.specs.Fmt.{decimal}
 use Rattle.std.specs.Result.{result_map_both}
 use Rattle.std.specs.declared.alloc.Global.{Global}
-use Rattle.spe_model.specs.declared.statement.Statement.{Statement}
 use Rattle.spe_model.specs.declared.transaction.Tx.{Tx}
 use Rattle.spe_model.specs.declared.transaction.TxKind.{TxKind}
 use Rattle.spe_model.specs.declared.transaction.TxKind.TheVariants.{ReadWrite, ReadOnly}
@@ -12,7 +11,6 @@ use Rattle.spe_disk.specs.declared.scripts.ScriptFault.{ScriptFault}
 use Rattle.spe_disk.specs.declared.scripts.ScriptFault.TheVariants as faults
 use Rattle.spe_disk.specs.Listed.{next_number}
 use Rattle.spe_disk.specs.Scripts.{Texts}
-use Rattle.spe_exec.specs.Writes.{is_built}
 use Rattle.spe_script.specs.declared.fault.ScriptError.{ScriptError}
 use Rattle.spe_script.specs.declared.fault.ScriptKind.{ScriptKind}
 use Rattle.spe_script.specs.declared.fault.ScriptKind.TheVariants as kinds
@@ -48,9 +46,9 @@ abbrev pub may_write : TxKind → Bool
 may_write ReadWrite = true
 may_write ReadOnly = false
 
--- a transaction is carried out so far: it is none that only reads, and has no statement that is not built
+-- a transaction is carried out so far: it is none that only reads
 abbrev pub is_carried_out : Tx → Bool
-is_carried_out tx = may_write tx.kind && list_all is_built tx.statements
+is_carried_out tx = may_write tx.kind
 
 -- so it is of all transactions of all clients
 abbrev pub are_carried_out : List (List Tx) → Bool

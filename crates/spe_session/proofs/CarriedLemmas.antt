@@ -1,7 +1,6 @@
 -- The statements of a transaction, one more at a time.
-use Rattle.std.proofs.Common.{◌≡◌, ◌+◌, ◌-◌, ◌<◌, ◌≤◌, ◌∙◌, List, [], ◌∷◌, ◌++◌, length, take, drop, All, None, Ok, true, refl, sym, ap, subst, arith, append_assoc}
+use Rattle.std.proofs.Common.{◌≡◌, ◌+◌, ◌-◌, ◌<◌, ◌≤◌, ◌∙◌, List, [], ◌∷◌, ◌++◌, length, take, drop, None, Ok, refl, sym, ap, subst, arith, append_assoc}
 use Rattle.std.proofs.lemmas.List.{length-append, take_all}
-use Rattle.std.proofs.lemmas.List.Elements.{All-tail}
 use Rattle.std.specs.Prelude.{slice_index_or}
 use Rattle.spe_model.specs.declared.catalog.Entry.{Entry}
 use Rattle.spe_model.specs.declared.reply.Reply.{Reply}
@@ -11,7 +10,7 @@ use Rattle.spe_space.specs.declared.pages.Pages.{Ghosts}
 use Rattle.spe_space.specs.Calls.{Keeps}
 use Rattle.spe_served.specs.Lists.{ListsStand}
 use Rattle.spe_exec.specs.Justifying.{JustifiedIn, JustifiedRun}
-use Rattle.spe_exec.specs.Writes.{DoesMeaning, is_built}
+use Rattle.spe_exec.specs.Writes.{DoesMeaning}
 use Rattle.spe_session.specs.Carried.{AreLeft, IsFront, WhereBegun}
 
 pub keeps_same : {P : Type 0} (g : Ghosts P) (a : P) → Keeps g a a
@@ -38,16 +37,14 @@ keeps_both g a b c x y = record {
 
 -- in the loop over the statements: what was done up to here
 pub record Going {P : Type 0} (g : Ghosts P) (old s : P) (catalog : List Entry) (kind : TxKind) (statements left : List Statement) (replies : List Reply) : Type 0 where
-  pub built : All (λ (x : Statement). is_built x ≡ true) left
   pub none : g.refusal s ≡ None
   pub kept : Keeps g old s
   pub counted : length replies + length left ≡ length statements
   pub done : WhereBegun g old catalog kind (λ opening. AreLeft g opening kind statements left replies s)
 
 pub begin : {P : Type 0} (g : Ghosts P) (s : P) (catalog : List Entry) (kind : TxKind) (statements : List Statement) (replies : List Reply)
-    → All (λ (x : Statement). is_built x ≡ true) statements → g.refusal s ≡ None → replies ≡ [] → Going g s s catalog kind statements statements replies
-begin g s catalog kind statements replies built none empty = record {
-  built = built;
+    → g.refusal s ≡ None → replies ≡ [] → Going g s s catalog kind statements statements replies
+begin g s catalog kind statements replies none empty = record {
   none = none;
   kept = keeps_same g s;
   counted = let none : length replies ≡ 0 = ap (λ (rs : List Reply). length rs) empty in omega (arith, none);
@@ -65,9 +62,7 @@ pub more : {P : Type 0} (g : Ghosts P) (old early late : P) (catalog : List Entr
 more g old early late catalog kind statements left rest s replies new reply lists law is grown same kept means going =
     let long : length new ≡ length replies + 1 = ap (λ (rs : List Reply). length rs) grown ∙ length-append replies (reply ∷ []) in
     let count : length left ≡ length (s ∷ rest) = ap (λ (ss : List Statement). length ss) is in
-    let all : All (λ (x : Statement). is_built x ≡ true) (s ∷ rest) = subst (All (λ (x : Statement). is_built x ≡ true)) is going.built in
     record {
-      built = All-tail (λ (x : Statement). is_built x ≡ true) s rest all;
       none = same ∙ going.none;
       kept = keeps_both g old early late going.kept kept;
       counted = omega (arith, long, count, going.counted);

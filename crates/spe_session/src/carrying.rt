@@ -1,11 +1,9 @@
 //! The statements of a transaction, carried out one after the other.
 
-ghost use Rattle.std.specs.Prelude.{◌≡◌, ◌<◌, [], None, true, All, IfErr, OnOk, length};
-ghost use Rattle.spe_model.specs.declared.statement.Statement.{Statement as AnyStatement};
+ghost use Rattle.std.specs.Prelude.{◌≡◌, ◌<◌, [], None, IfErr, OnOk, length};
 ghost use Rattle.spe_space.specs.Calls.{Keeps, RefusesTree};
 ghost use Rattle.spe_served.specs.Lists.{ListsStand};
 ghost use Rattle.spe_exec.specs.Justifying.{JustifiedIn};
-ghost use Rattle.spe_exec.specs.Writes.{is_built};
 ghost use Rattle.spe_session.specs.Carried.{IsFront, WhereBegun};
 
 use spe_exec::{justified_more, run};
@@ -25,7 +23,6 @@ pub fn carry_out<S: PageSpace>(
 ) -> Result<(), TreeFault>
     requires lists { ListsStand S.Pages }
     requires refusal { S.Pages.refusal space.old ≡ None }
-    requires built { All (λ (s : AnyStatement). is_built s ≡ true) statements.now }
     requires empty { replies.old.items ≡ [] }
     ensures done { OnOk result (WhereBegun S.Pages space.old catalog.now kind (λ opening.
         JustifiedIn S.Pages opening (record { kind = kind; statements = statements.now; replies = replies.new.items }) space.new)) }

@@ -1,14 +1,12 @@
 //! A transaction of a client, from its begin to its end.
 
-ghost use Rattle.std.specs.Prelude.{◌≡◌, ◌<◌, ◌≤◌, ◌∷◌, [], All, None, false, length, true};
+ghost use Rattle.std.specs.Prelude.{◌≡◌, ◌<◌, ◌≤◌, ◌∷◌, [], None, false, length, true};
 ghost use Rattle.spe_model.specs.Database.{Database};
 ghost use Rattle.spe_model.specs.Settled.{IsWithinLimits};
-ghost use Rattle.spe_model.specs.declared.statement.Statement.{Statement};
 ghost use Rattle.spe_model.specs.declared.transaction.TxKind.TheVariants.{ReadWrite};
 ghost use Rattle.spe_model.specs.declared.transcript.Cause.TheVariants.{Corrupt};
 ghost use Rattle.spe_model.specs.declared.transcript.Outcome.TheVariants.{Fault};
 ghost use Rattle.spe_frame.specs.Times.{times};
-ghost use Rattle.spe_exec.specs.Writes.{is_built};
 ghost use Rattle.spe_store.specs.Call.{IsTied, IsUnbegun};
 ghost use Rattle.spe_store.specs.Event.{broken_in, entries_in, open_in};
 ghost use Rattle.spe_store.specs.Event.Event.{Begun};
@@ -119,7 +117,6 @@ fn work<D: Disk, N: Opening, K: Beginning>(
     requires reading { IsReading store.events pass.id }
     requires catalog { base.catalog.now ≡ N.opened.read.catalog }
     requires first { 0 < times K.begun.first N.opened.read.trunks }
-    requires built { All (λ (s : Statement). is_built s ≡ true) body.statements }
     requires was { WasServed N.opened }
     requires told { session.old.told ≤ length K.begun.entries }
     ensures enters { EntersBy K.begun.entries (entries_in result.store.events) turn.client turn.tx body result.replies result.outcome }
@@ -174,7 +171,6 @@ pub fn run_tx<D: Disk, N: Opening>(
     requires first { 0 < times base.first N.opened.read.trunks }
     requires served { WasServed N.opened }
     requires kind { body.kind ≡ ReadWrite }
-    requires built { All (λ (s : Statement). is_built s ≡ true) body.statements }
     requires told { session.old.told ≤ length (entries_in store.events) }
     ensures enters { Enters store result.store turn.client turn.tx body result.replies result.outcome }
     ensures ends { EndsAs body result.outcome }

@@ -1,15 +1,13 @@
 //! A transaction of a client, up to its end.
 
-ghost use Rattle.std.specs.Prelude.{◌≡◌, ◌<◌, ◌≤◌, [], All, IfErr, None, OnOk, length, true, ℕ};
+ghost use Rattle.std.specs.Prelude.{◌≡◌, ◌<◌, ◌≤◌, [], IfErr, None, OnOk, length, ℕ};
 ghost use Rattle.spe_model.specs.declared.transaction.End.TheVariants as ends;
 ghost use Rattle.spe_model.specs.Database.{Database};
 ghost use Rattle.spe_store.specs.Event.{broken_in, entries_in};
 ghost use Rattle.spe_store.specs.Served.{AreServed};
 ghost use Rattle.spe_store.specs.Store.{IfTold};
-ghost use Rattle.spe_model.specs.declared.statement.Statement.{Statement as AnyStatement};
 ghost use Rattle.spe_frame.specs.Times.{times};
 ghost use Rattle.spe_exec.specs.Justifying.{JustifiedIn};
-ghost use Rattle.spe_exec.specs.Writes.{is_built};
 ghost use Rattle.spe_session.specs.Carried.{IsFront};
 ghost use Rattle.spe_session.specs.Ending.{WasServed};
 ghost use Rattle.spe_session.specs.Transaction.{AreRight, BreaksAs, EndsAs, EntersBy, HasReason, IsFilled, IsKept, IsOwnFault, IsResting, IsToldBy, OnTreeFull, ReadsFailed, StopsWhole, number_of, outcome_after, outcome_of};
@@ -238,7 +236,6 @@ pub(crate) fn carry_known<D: Disk, N: Opening, K: Beginning>(
     requires refusal { ⟦<Pager<D, N, K> as Pages>⟧.refusal pager.old ≡ None }
     requires catalog { catalog.now ≡ N.opened.read.catalog }
     requires first { 0 < times K.begun.first N.opened.read.trunks }
-    requires built { All (λ (s : AnyStatement). is_built s ≡ true) statements.now }
     requires empty { replies.old.items ≡ [] }
     ensures done { OnOk result (JustifiedIn ⟦<Pager<D, N, K> as Pages>⟧ N.opened.read
         (record { kind = kind; statements = statements.now; replies = replies.new.items }) pager.new) }

@@ -1,7 +1,6 @@
 //! Rows put in over pages and over maps.
 
 ghost use Rattle.std.specs.Prelude.{◌≡◌, None};
-ghost use Rattle.spe_exec.specs.Writes.{is_built};
 ghost use Rattle.spe_space.specs.View.{map_refusal};
 
 use crate::tests::build::{statement_of, tables};
@@ -116,12 +115,6 @@ struct Paged {
     ghost well: { map_refusal space ≡ None },
 }
 
-fn is_one_of(statement: &Statement) -> bool
-    ensures { result ≡ is_built statement.now }
-{
-    !matches!(statement, Statement::Delete { .. })
-}
-
 // The pages after a statement, where it gives this answer.
 fn after(
     alloc: Global,
@@ -131,9 +124,6 @@ fn after(
     statement: &Statement,
     answer: &Answer,
 ) -> Option<Paged> {
-    if !is_one_of(statement) {
-        return None;
-    }
     let Paged { mut space } = paged;
     match run(alloc, &mut space, catalog, statement, kind) {
         Ok(reply) if is_reply(&reply, answer) => Some(Paged { space }),
