@@ -3,16 +3,18 @@
 #![tactic(auto)]
 
 mod messages;
+mod progress;
 
 use crate::messages::{Asked, USAGE, VERSION, advice, header_fault};
-use spe_disk::{OpenGate, Sink, put_all};
+use crate::progress::Progress;
+use spe_disk::{Sink, put_all};
 use spe_files::{FileDisk, FileScripts, OutSink};
 use spe_model::{Text, Words};
 use spe_serve::spe;
 use std::alloc::Global;
 use std::env::Env;
 use std::fs::File;
-use std::io::ErrorKind;
+use std::io::{ErrorKind, IsTerminal};
 use std::process::ExitCode;
 use std::rt::Files;
 use std::{env, io};
@@ -122,6 +124,7 @@ fn main(rt: HostRuntime) -> io::Result<ExitCode> {
         }
     };
     let asked = Asked::of(&words);
+    let progress = Progress::new(&rt, rt.stderr().is_terminal());
     let (finished, disk) = spe(
         &rt,
         rt.alloc(),
@@ -129,8 +132,9 @@ fn main(rt: HostRuntime) -> io::Result<ExitCode> {
         FileDisk::new(&rt, rt.alloc()),
         &mut FileScripts::new(&rt),
         &mut out,
-        &OpenGate,
+        &progress,
     );
+    let _ = progress.end();
     tidy(finished.status, out.head(), &disk);
     let _ = tell(&rt, finished.status, asked, out.head(), &disk);
     Ok(ExitCode::from(finished.status))

@@ -20,7 +20,7 @@ use crate::clients::Clients;
 use crate::place::Place;
 use crate::report::Report;
 use crate::room::put;
-use spe_disk::Disk;
+use spe_disk::{Disk, Gate};
 use spe_model::{Transcript, Transcripts, Tx};
 use spe_session::{Base, Ran, Turn, run_tx};
 use spe_store::{Opening, Parts, SessionSeat, Store};
@@ -41,11 +41,12 @@ struct Served<D: Disk, N: Opening> {
 }
 
 // Runs one transaction, whose session was told of all commits.
-fn run_one<D: Disk, N: Opening>(
+fn run_one<D: Disk, N: Opening, G: Gate>(
     alloc: Global,
     store: Store<D, N>,
     session: &mut SessionSeat,
     base: Base<'_>,
+    gate: &G,
     turn: Turn,
     body: Tx,
 ) -> Ran<D, N>
@@ -57,14 +58,15 @@ fn run_one<D: Disk, N: Opening>(
     ensures told { session.new.told ≡ length (entries_in result.store.events) }
     ensures resting { IsResting result.store }
 {
-    run_tx(alloc, store, session, base, turn, body)
+    run_tx(alloc, store, session, base, gate, turn, body)
 }
 
 // Runs the transactions of a client.
-fn run_client<D: Disk, N: Opening>(
+fn run_client<D: Disk, N: Opening, G: Gate>(
     alloc: Global,
     store: Store<D, N>,
     base: Base<'_>,
+    gate: &G,
     client: u32,
     place: Place,
 ) -> Served<D, N>
@@ -87,8 +89,9 @@ fn run_client<D: Disk, N: Opening>(
     while let Some(body) = left.pop() {
         tx += 1;
         let turn = Turn { client, tx };
-        let ran = run_one(alloc, store, &mut session, base, turn, body);
+        let ran = run_one(alloc, store, &mut session, base, gate, turn, body);
         put(&mut answers, (ran.outcome, ran.replies));
+        gate.done(client, tx);
         store = ran.store;
     }
     Served {
@@ -98,10 +101,11 @@ fn run_client<D: Disk, N: Opening>(
 }
 
 // Runs all clients.
-fn run_all<D: Disk, N: Opening>(
+fn run_all<D: Disk, N: Opening, G: Gate>(
     alloc: Global,
     store: Store<D, N>,
     base: Base<'_>,
+    gate: &G,
     clients: Clients,
 ) -> Worked<D, N>
     requires resting { IsResting store }
@@ -117,7 +121,7 @@ fn run_all<D: Disk, N: Opening>(
     let mut client = 0;
     while let Some(place) = places.pop() {
         client += 1;
-        let served = run_client(alloc, store, base, client, place);
+        let served = run_client(alloc, store, base, gate, client, place);
         put(&mut transcripts, served.transcript);
         store = served.store;
     }
@@ -128,17 +132,18 @@ fn run_all<D: Disk, N: Opening>(
 }
 
 /// Runs all transactions of all clients, one after another, over a store in which nothing was done yet, and
-/// closes it.
+/// closes it. The gate is told of each statement before it, and of each transaction once it is over.
 ///
 /// `ordered` and `serial`: they were replied to as one serial run in the order of their commits. `later`:
 /// each transaction has seen what those before it saw. `plain`: where each ended as it asked, the outcomes
 /// and replies are those of running them on the database. `stopped`: once an operation failed, no
 /// transaction goes on. `cuts` and `exact`: what a stop leaves, where the disk tells its files. `causes` and
 /// `last`: an outcome names an operation only where one has failed, and none is made after it.
-pub fn run_clients<D: Disk, N: Opening>(
+pub fn run_clients<D: Disk, N: Opening, G: Gate>(
     alloc: Global,
     store: Store<D, N>,
     base: Base<'_>,
+    gate: &G,
     clients: Clients,
 ) -> Report<D>
     requires resting { IsResting store }
@@ -160,7 +165,7 @@ pub fn run_clients<D: Disk, N: Opening>(
     ensures last { IfTold (D.told result.disk) (λ h. NoneFollows h (all_outcomes result.transcripts)) }
     ensures attached { D.attached result.disk ≡ true }
 {
-    let Worked { store, transcripts } = run_all(alloc, store, base, clients);
+    let Worked { store, transcripts } = run_all(alloc, store, base, gate, clients);
     store.keeps();
     let Parts { disk, order } = store.close();
     Report {

@@ -22,7 +22,7 @@ use crate::shared::found_shared;
 use crate::writing::refusal_in;
 use spe_clients::{Clients, Report, run_clients};
 use spe_crash::recovered_pages;
-use spe_disk::{Disk, Failed, Scripts};
+use spe_disk::{Disk, Failed, Gate, Scripts};
 use spe_model::{Commits, RecoverFault, Recovered, Text, Transcripts};
 use spe_opening::Shared;
 use spe_recover::{Want, recover};
@@ -57,12 +57,13 @@ pub struct Served {
 
 // Serves clients, once all is read that they share. Their pages are taken from the list with this first
 // trunk.
-fn serve_opened<D: Disk, N: Opening>(
+fn serve_opened<D: Disk, N: Opening, G: Gate>(
     alloc: Global,
     disk: D,
     found: &Recovered,
     shared: &Shared,
     first: u32,
+    gate: &G,
     clients: Clients,
 ) -> (Run, D)
     requires attached { D.attached disk ≡ true }
@@ -94,7 +95,7 @@ fn serve_opened<D: Disk, N: Opening>(
         disk,
         order,
         transcripts,
-    } = run_clients(alloc, store, base, clients);
+    } = run_clients(alloc, store, base, gate, clients);
     (Run::Served(Served { order, transcripts }), disk)
 }
 
@@ -109,11 +110,12 @@ fn unopened(why: OpenWhy) -> Run
 }
 
 // Serves clients over pages that stand, where no more than this is to be read.
-fn serve_shared<D: Disk>(
+fn serve_shared<D: Disk, G: Gate>(
     alloc: Global,
     disk: D,
     found: &Recovered,
     shared: &Shared,
+    gate: &G,
     clients: Clients,
 ) -> (Run, D)
     requires attached { D.attached disk ≡ true }
@@ -131,7 +133,7 @@ fn serve_shared<D: Disk>(
     if found.ops >= 1 << 63 {
         return (Run::NoMemory, disk);
     }
-    serve_opened::<D, Brand>(alloc, disk, found, shared, *first, clients)
+    serve_opened::<D, Brand, G>(alloc, disk, found, shared, *first, gate, clients)
 }
 
 // What comes of a failure before a client is served.
@@ -145,7 +147,7 @@ fn failed(failure: Failure) -> Run
 }
 
 // Serves clients over recovered pages that break no rule of the check.
-fn serve_sound<D: Disk>(alloc: Global, disk: D, found: &Recovered, clients: Clients) -> (Run, D)
+fn serve_sound<D: Disk, G: Gate>(alloc: Global, disk: D, found: &Recovered, gate: &G, clients: Clients) -> (Run, D)
     requires attached { D.attached disk ≡ true }
     requires limits { IsWithinLimits found.now }
     requires sound { IfTold (D.told disk) (IsSoundBy found.now) }
@@ -160,14 +162,14 @@ fn serve_sound<D: Disk>(alloc: Global, disk: D, found: &Recovered, clients: Clie
     };
     let (read, disk) = found_shared::<D, Brand>(alloc, disk, found, node);
     match read {
-        Ok(Ok(shared)) => serve_shared(alloc, disk, found, &shared, clients),
+        Ok(Ok(shared)) => serve_shared(alloc, disk, found, &shared, gate, clients),
         Ok(Err(page)) => (Run::Refused(Reply::Corrupt { page }), disk),
         Err(failure) => (failed(failure), disk),
     }
 }
 
 // Serves clients over recovered pages in server form.
-fn serve_found<D: Disk>(alloc: Global, disk: D, found: &Recovered, clients: Clients) -> (Run, D)
+fn serve_found<D: Disk, G: Gate>(alloc: Global, disk: D, found: &Recovered, gate: &G, clients: Clients) -> (Run, D)
     requires attached { D.attached disk ≡ true }
     requires limits { IsWithinLimits found.now }
     requires found { IfTold (D.told disk) (IsRecoveredBy found.now) }
@@ -183,7 +185,7 @@ fn serve_found<D: Disk>(alloc: Global, disk: D, found: &Recovered, clients: Clie
     };
     match refusal_in(answered) {
         Some(refusal) => (Run::Refused(refusal), disk),
-        None => serve_sound(alloc, disk, found, clients),
+        None => serve_sound(alloc, disk, found, gate, clients),
     }
 }
 
@@ -204,7 +206,7 @@ fn unrecovered(fault: RecoverFault) -> Run
 }
 
 // Serves clients over the files that are attached, which are recovered first.
-fn serve_attached<D: Disk>(alloc: Global, mut disk: D, clients: Clients) -> (Run, D)
+fn serve_attached<D: Disk, G: Gate>(alloc: Global, mut disk: D, gate: &G, clients: Clients) -> (Run, D)
     requires attached { D.attached disk ≡ true }
     requires fresh { NothingDone (D.told disk) }
     requires there { IfTold (D.told disk) (λ h. is_none (file_of h.first Database) ≡ false) }
@@ -215,13 +217,13 @@ fn serve_attached<D: Disk>(alloc: Global, mut disk: D, clients: Clients) -> (Run
 {
     recovered_pages();
     match recover(alloc, &mut disk, Want::Prepared) {
-        Ok(found) => serve_found(alloc, disk, &found, clients),
+        Ok(found) => serve_found(alloc, disk, &found, gate, clients),
         Err(fault) => (unrecovered(fault), disk),
     }
 }
 
 // Serves clients over a database.
-fn serve_clients<D: Disk>(alloc: Global, database: &Text, mut disk: D, clients: Clients) -> (Run, D)
+fn serve_clients<D: Disk, G: Gate>(alloc: Global, database: &Text, mut disk: D, gate: &G, clients: Clients) -> (Run, D)
     requires attached { D.attached disk ≡ false }
     ensures run { WhereKnown (D.told disk) (D.told result.1) (λ h. IsRunOver clients h result.0) }
     ensures orderly { IsRunFor clients result.0 }
@@ -229,7 +231,7 @@ fn serve_clients<D: Disk>(alloc: Global, database: &Text, mut disk: D, clients: 
     ensures cause { HasRunCause (D.read_faults disk) (D.read_faults result.1) (D.op_faults disk) (D.op_faults result.1) result.0 }
 {
     match disk.attach(database.as_str()) {
-        Ok(true) => serve_attached(alloc, disk, clients),
+        Ok(true) => serve_attached(alloc, disk, gate, clients),
         Ok(false) => (Run::Refused(Reply::NoDatabase), disk),
         Err(Failed) => (Run::DiskFailed, disk),
     }
@@ -249,12 +251,13 @@ fn seat<C: Scripts>(alloc: Global, scripts: &mut C, names: &[Text]) -> Result<Cl
 ///
 /// All scripts are read and parsed before the database is looked at. It is recovered and checked first, and
 /// refused where it is not in server form, breaks a rule, or has a page that cannot be served.
-pub fn run_scripts<D: Disk, C: Scripts>(
+pub fn run_scripts<D: Disk, C: Scripts, G: Gate>(
     alloc: Global,
     database: &Text,
     names: &[Text],
     disk: D,
     scripts: &mut C,
+    gate: &G,
 ) -> (Run, D)
     requires few { length names.now ≤ 64 }
     requires attached { D.attached disk ≡ false }
@@ -263,7 +266,7 @@ pub fn run_scripts<D: Disk, C: Scripts>(
     ensures scripts { CountsRun (C.faults scripts.old) (C.faults scripts.new) result.0 }
 {
     match seat(alloc, scripts, names) {
-        Ok(clients) => serve_clients(alloc, database, disk, clients),
+        Ok(clients) => serve_clients(alloc, database, disk, gate, clients),
         Err(why) => (Run::Unasked(why), disk),
     }
 }

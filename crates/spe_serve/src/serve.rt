@@ -178,19 +178,20 @@ fn order_of(alloc: Global, run: Run) -> Commits
 }
 
 // Serves clients and prints what became of them.
-fn serve<D: Disk, C: Scripts, W: Sink>(
+fn serve<D: Disk, C: Scripts, W: Sink, G: Gate>(
     alloc: Global,
     database: &Text,
     names: &Names,
     disk: D,
     scripts: &mut C,
     out: &mut W,
+    gate: &G,
 ) -> (Finished, D)
     requires few { length names.now ≤ 64 }
     requires attached { D.attached disk ≡ false }
     ensures { EndsRun D.Disk C.Scripts W.Sink disk result.1 scripts.old scripts.new out.old out.new names.now result.0.order result.0.status }
 {
-    let (run, disk) = run_scripts(alloc, database, names.as_slice(), disk, scripts);
+    let (run, disk) = run_scripts(alloc, database, names.as_slice(), disk, scripts, gate);
     let status = put_run(alloc, out, &run);
     let order = order_of(alloc, run);
     (Finished { status, order }, disk)
@@ -239,13 +240,14 @@ fn serving(asked: &Result<Command, WordsFault>) -> Option<(&Text, &Names)>
 }
 
 // Does what words were read as.
-fn act<D: Disk, C: Scripts, W: Sink>(
+fn act<D: Disk, C: Scripts, W: Sink, G: Gate>(
     alloc: Global,
     words: &Words,
     asked: &Result<Command, WordsFault>,
     disk: D,
     scripts: &mut C,
     out: &mut W,
+    gate: &G,
 ) -> (Finished, D)
     requires read { IsReadAs words.now asked.now }
     requires attached { D.attached disk ≡ false }
@@ -258,7 +260,7 @@ fn act<D: Disk, C: Scripts, W: Sink>(
     ensures untouched { AskForNone words.now → D.told result.1 ≡ D.told disk }
 {
     match serving(asked) {
-        Some((database, names)) => serve(alloc, database, names, disk, scripts, out),
+        Some((database, names)) => serve(alloc, database, names, disk, scripts, out, gate),
         None => answer(alloc, words, asked, disk, out),
     }
 }
@@ -274,9 +276,9 @@ fn act<D: Disk, C: Scripts, W: Sink>(
 /// in server form, and refuses damaged pages, then those in server form, and then those that would be too
 /// many with what is to be added. `run DATABASE SCRIPT..` runs the transactions of each script, one after
 /// another, and prints what became of them; it refuses a script that there is not, then one that is
-/// wrong, then what is not built yet, and then as `release` does, before a transaction begins.
-/// Other commands are answered as not built, and their database is not looked at. Words that are no
-/// command are refused before all else.
+/// wrong, then what is not built yet, and then as `release` does, before a transaction begins. `gate` is
+/// told of each statement before it, and of each transaction that is over. Other commands are answered as
+/// not built, and their database is not looked at. Words that are no command are refused before all else.
 pub fn spe<R: Threads + Wait + Sync, D: Disk + Send, C: Scripts, W: Sink, G: Gate + Sync>(
     _rt: &R,
     alloc: Global,
@@ -284,7 +286,7 @@ pub fn spe<R: Threads + Wait + Sync, D: Disk + Send, C: Scripts, W: Sink, G: Gat
     disk: D,
     scripts: &mut C,
     out: &mut W,
-    _gate: &G,
+    gate: &G,
 ) -> (Finished, D)
     requires { D.attached disk ≡ false }
 
@@ -323,5 +325,5 @@ pub fn spe<R: Threads + Wait + Sync, D: Disk + Send, C: Scripts, W: Sink, G: Gat
     legal_law();
     verdict_law();
     let asked = read_words(alloc, &words);
-    act(alloc, &words, &asked, disk, scripts, out)
+    act(alloc, &words, &asked, disk, scripts, out, gate)
 }

@@ -6,20 +6,23 @@ ghost use Rattle.spe_served.specs.Lists.{ListsStand};
 ghost use Rattle.spe_exec.specs.Justifying.{JustifiedIn};
 ghost use Rattle.spe_session.specs.Carried.{IsFront, WhereBegun};
 
+use crate::passing::Passing;
+use spe_disk::Gate;
 use spe_exec::{justified_more, run};
 use spe_model::{Catalog, Reply, Statement, TxKind};
 use spe_space::{PageSpace, SpaceFault, TreeFault};
 use std::alloc::Global;
 
 /// Carries out statements one after the other, up to the first that fails, and keeps the replies to those
-/// before it. The faults are those of `run`, and want of memory for the replies.
-pub fn carry_out<S: PageSpace>(
+/// before it. Each passes the gate first. The faults are those of `run`, and want of memory for the replies.
+pub fn carry_out<S: PageSpace, G: Gate>(
     alloc: Global,
     space: &mut S,
     catalog: &Catalog,
     statements: &[Statement],
     kind: TxKind,
     replies: &mut Vec<Reply>,
+    passing: &Passing<'_, G>,
 ) -> Result<(), TreeFault>
     requires lists { ListsStand S.Pages }
     requires refusal { S.Pages.refusal space.old ≡ None }
@@ -34,6 +37,7 @@ pub fn carry_out<S: PageSpace>(
     justified_more::<S>();
     let mut left = statements;
     while let [statement, rest @ ..] = left {
+        passing.pass(replies.len());
         let reply = match run(alloc, space, catalog, statement, kind) {
             Ok(reply) => reply,
             Err(fault) => return Err(fault),

@@ -21,8 +21,9 @@ use crate::alone::alone_law;
 use crate::beginning::Beginning;
 use crate::leaving::{Left, leave};
 use crate::pager::Pager;
+use crate::passing::Passing;
 use crate::transaction::{Ran, Turn, carry_known, fail, finish};
-use spe_disk::Disk;
+use spe_disk::{Disk, Gate};
 use spe_model::{Catalog, Cause, Outcome, Recovered, Replies, Tx};
 use spe_store::{BeginFault, Opening, Pass, SessionSeat, Store};
 use std::alloc::Global;
@@ -91,13 +92,13 @@ fn turn_away<D: Disk, N: Opening>(
 }
 
 // Works on the pages of a pass that has just begun.
-fn work<D: Disk, N: Opening, K: Beginning>(
+fn work<D: Disk, N: Opening, K: Beginning, G: Gate>(
     alloc: Global,
     store: Store<D, N>,
     pass: Pass,
     session: &mut SessionSeat,
     base: Base<'_>,
-    turn: Turn,
+    passing: &Passing<'_, G>,
     body: Tx,
 ) -> Ran<D, N>
     requires limits { IsWithinLimits base.found.now }
@@ -119,13 +120,13 @@ fn work<D: Disk, N: Opening, K: Beginning>(
     requires first { 0 < times K.begun.first N.opened.read.trunks }
     requires was { WasServed N.opened }
     requires told { session.old.told ≤ length K.begun.entries }
-    ensures enters { EntersBy K.begun.entries (entries_in result.store.events) turn.client turn.tx body result.replies result.outcome }
+    ensures enters { EntersBy K.begun.entries (entries_in result.store.events) passing.now.turn.client passing.now.turn.tx body result.replies result.outcome }
     ensures ends { EndsAs body result.outcome }
     ensures right { IfTold K.begun.told (λ _. (db : Database) → AreServed N.opened.read N.opened.pages db → AreRight K.begun.entries db body result.replies result.outcome) }
     ensures reason { HasReason result.store.desk result.outcome }
     ensures reads { ReadsFailed K.begun.reads result.store.desk.reads result.outcome }
     ensures filled { IsFilled result.store.page_size result.outcome }
-    ensures broken { BreaksAs turn.client turn.tx body result.replies result.outcome (broken_in result.store.events) }
+    ensures broken { BreaksAs passing.now.turn.client passing.now.turn.tx body result.replies result.outcome (broken_in result.store.events) }
     ensures whole { IfTold K.begun.told (λ _. (db : Database) → AreServed N.opened.read N.opened.pages db → StopsWhole K.begun.entries db body result.replies result.outcome) }
     ensures session { IsToldBy (entries_in result.store.events) session.old session.new result.outcome }
     ensures resting { IsResting result.store }
@@ -139,15 +140,20 @@ fn work<D: Disk, N: Opening, K: Beginning>(
         body.statements.as_slice(),
         body.kind,
         &mut replies,
+        passing,
     );
     match done {
-        Ok(()) => finish(pager, session, turn, body, Replies::new(replies)),
+        Ok(()) => {
+            passing.pass(body.statements.as_slice().len());
+            finish(pager, session, passing.turn, body, Replies::new(replies))
+        }
         Err(fault) => fail(pager, session, &body, fault, Replies::new(replies)),
     }
 }
 
 /// Runs a transaction that may write, while no other is at work: it begins, its statements are carried out,
-/// and it commits or is rolled back as it asks, or ends with a fault, and then nothing of it is left.
+/// and it commits or is rolled back as it asks, or ends with a fault, and then nothing of it is left. Each
+/// statement passes the gate, and so does the ending word.
 ///
 /// The replies are those to its statements up to the first fault. The outcome's number is that of its
 /// commit, or else of the commits that it saw. `StaysStopped`: once the store has stopped, each transaction
@@ -156,11 +162,12 @@ fn work<D: Disk, N: Opening, K: Beginning>(
 /// sixteen pages more would take over 2^30 bytes. Over a disk that does not tell its files, `Corrupt` of page 1
 /// comes also where page 1 does not name the sizes that recovery found or the number of pages that the
 /// store has.
-pub fn run_tx<D: Disk, N: Opening>(
+pub fn run_tx<D: Disk, N: Opening, G: Gate>(
     alloc: Global,
     store: Store<D, N>,
     session: &mut SessionSeat,
     base: Base<'_>,
+    gate: &G,
     turn: Turn,
     body: Tx,
 ) -> Ran<D, N>
@@ -200,5 +207,6 @@ pub fn run_tx<D: Disk, N: Opening>(
     if !is_counted(store.count(), base.found.page_size) {
         return turn_away(alloc, store, pass, session);
     }
-    work::<D, N, Brand>(alloc, store, pass, session, base, turn, body)
+    let passing = Passing { gate, turn };
+    work::<D, N, Brand, G>(alloc, store, pass, session, base, &passing, body)
 }

@@ -18,7 +18,8 @@ use crate::commit::Ended;
 use crate::fault::{EndFailed, EndFault};
 use crate::leaving::Left;
 use crate::pager::Pager;
-use spe_disk::Disk;
+use crate::passing::Passing;
+use spe_disk::{Disk, Gate};
 use spe_model::{Catalog, Cause, End, Outcome, Replies, Reply, Statement, Tx, TxKind};
 use spe_space::{Pages, SpaceFault, TreeFault};
 use spe_store::{Log, Opening, SessionSeat, Store};
@@ -224,13 +225,14 @@ pub(crate) fn finish<D: Disk, N: Opening, K: Beginning>(
 }
 
 // Carries out the statements of a transaction that has just begun, once page 1 is known.
-pub(crate) fn carry_known<D: Disk, N: Opening, K: Beginning>(
+pub(crate) fn carry_known<D: Disk, N: Opening, K: Beginning, G: Gate>(
     alloc: Global,
     pager: &mut Pager<D, N, K>,
     catalog: &Catalog,
     statements: &[Statement],
     kind: TxKind,
     replies: &mut Vec<Reply>,
+    passing: &Passing<'_, G>,
 ) -> Result<(), TreeFault>
     requires bare { (n : ℕ) → ⟦<Pager<D, N, K> as Pages>⟧.laid pager.old n ≡ None }
     requires refusal { ⟦<Pager<D, N, K> as Pages>⟧.refusal pager.old ≡ None }
@@ -245,7 +247,7 @@ pub(crate) fn carry_known<D: Disk, N: Opening, K: Beginning>(
     ensures kept { IfErr result (IsKept (⟦<Pager<D, N, K> as Pages>⟧.refusal pager.new)) }
 {
     match pager.knows_front() {
-        Ok(true) => carry_out(alloc, pager, catalog, statements, kind, replies),
+        Ok(true) => carry_out(alloc, pager, catalog, statements, kind, replies, passing),
         Ok(false) => Err(TreeFault::Corrupt { page: 1 }),
         Err(fault) => Err(TreeFault::Space(fault)),
     }
