@@ -1,6 +1,7 @@
 mod commits;
 mod failures;
 mod files;
+mod gates;
 mod outside;
 mod refusals;
 mod replies;

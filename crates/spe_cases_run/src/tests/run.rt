@@ -21,7 +21,8 @@ fn push_word(alloc: Global, words: &mut Vec<Text>, word: &str) -> Result<(), All
     Ok(())
 }
 
-fn words_of(alloc: Global, words: &[&str]) -> Result<Words, AllocError> {
+/// These words.
+pub fn words_of(alloc: Global, words: &[&str]) -> Result<Words, AllocError> {
     let mut found = Vec::new(alloc);
     for word in words {
         push_word(alloc, &mut found, word)?;
