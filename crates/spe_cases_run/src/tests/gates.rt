@@ -17,6 +17,7 @@ use std::thread::Threads;
 type Call = (u32, u32, Option<u32>);
 
 // A gate that counts its calls, and those that are not the ones that it awaits.
+#[derive(Drop)]
 struct Awaiting {
     calls: &'static [Call],
     made: AtomicU64,
