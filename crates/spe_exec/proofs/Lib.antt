@@ -16,3 +16,4 @@ mod WritesLemmas
 pub mod ChangingLemmas
 pub mod UpdateLemmas
 pub mod UpdatingLemmas
+pub mod DeletingLemmas

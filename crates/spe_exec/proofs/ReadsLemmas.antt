@@ -49,7 +49,7 @@ use Rattle.spe_exec.proofs.ChosenLemmas.{chosen_rows, same_count}
 use Rattle.spe_exec.proofs.TableLemmas.{FindsTable, table_found}
 
 -- a row that is none of the table is in no list of its rows
-no_row : (table : TableDef) (stored : List Pair) (rows : List Row) (row : Pair) → AreTableRows table (map pair_seen stored) rows → Contains stored row → values_in table (pair_seen row) ≡ None → ⊥
+pub no_row : (table : TableDef) (stored : List Pair) (rows : List Row) (row : Pair) → AreTableRows table (map pair_seen stored) rows → Contains stored row → values_in table (pair_seen row) ≡ None → ⊥
 no_row table [] rows row are (k, lt, is) none = omega (arith, lt)
 no_row table (x ∷ xs) [] row are has none = absurd are
 no_row table (x ∷ xs) (r ∷ rs) row are (zero, lt, is) none =

@@ -87,7 +87,7 @@ given_is table s = record {
 
 -- no two rows have one rowid
 
-abbrev AreOthers : ℤ → List Row → Type 0
+abbrev pub AreOthers : ℤ → List Row → Type 0
 AreOthers k [] = Unit {0}
 AreOthers k (r ∷ rs) = (int_eq r.0 k ≡ false) × (int_eq k r.0 ≡ false) × AreOthers k rs
 
@@ -158,7 +158,7 @@ others_made k g p (r ∷ rs) others = by (p r) (others_made k g p rs others.2)
     by true rest = (others.0, others.1, rest)
     by false rest = rest
 
-self_is : (k : ℤ) → int_eq k k ≡ true
+pub self_is : (k : ℤ) → int_eq k k ≡ true
 self_is k = grind (arith, ints)
 
 first_changed : (r : Row) (rows : List Row) (v : List Value) → AreOthers r.0 rows → with_changed (r.0, v) (r ∷ rows) ≡ (r.0, v) ∷ rows

@@ -120,7 +120,7 @@ chosen_there g s pages root t conds stored slice same is alone found =
     (subst (λ (r : ℕ). (height : ℕ) → IsTableTree u p height r → map pair_seen stored ≡ stored_chosen conds (tree_rows u p height r)) (sym is.root_is) found)
 
 -- what a call after gets spares, the gets spare with it
-rows_after : {P : Type 0} (g : Ghosts P) (s mid new : P) (pages : Paging) (t : TableOf) (allocs : ℕ) → ShiftsBoth g → SparesBoth g → Reads g s mid → GetsOwn g s mid pages t
+pub rows_after : {P : Type 0} (g : Ghosts P) (s mid new : P) (pages : Paging) (t : TableOf) (allocs : ℕ) → ShiftsBoth g → SparesBoth g → Reads g s mid → GetsOwn g s mid pages t
     → SparesRows g mid new pages t allocs → SparesRows g s new pages t allocs
 rows_after g s mid new pages t allocs both spares reads gets given alone =
     let own = own_pages g s pages alone.tree in

@@ -7,6 +7,7 @@ use Rattle.spe_model.specs.declared.reply.Refusal.{Refusal}
 use Rattle.spe_model.specs.declared.reply.Refusal.TheVariants as refusals
 use Rattle.spe_model.specs.declared.reply.Reply.{Reply}
 use Rattle.spe_model.specs.declared.reply.Reply.TheVariants as replies
+use Rattle.spe_model.specs.declared.statement.Cond.{Cond}
 use Rattle.spe_model.specs.declared.statement.Statement.{Statement}
 use Rattle.spe_model.specs.declared.statement.Statement.TheVariants.{Select, Count, Insert, Update, Delete}
 use Rattle.spe_model.specs.declared.transaction.TxKind.{TxKind}
@@ -27,10 +28,12 @@ use Rattle.spe_served.specs.Lists.{ListsStand}
 use Rattle.spe_slow.specs.Answers.{rows_answer, table_answer}
 use Rattle.spe_slow.specs.Refused.{rowless_refusal}
 use Rattle.spe_slow.proofs.AnswersLemmas.{left_to_rows, meaning_blocked, meaning_named, meaning_unnamed, refused_by_table}
+use Rattle.spe_slow.proofs.RowsAnswerLemmas.{deleted_rows}
 use Rattle.spe_slow.proofs.TablesLemmas.{with_same}
 use Rattle.spe_insert.specs.Insert.{most_pages}
 use Rattle.spe_modify.specs.Row.{IsOpen, TableOf}
 use Rattle.spe_modify.specs.Rows.{SparesRows}
+use Rattle.spe_exec.specs.Deletes.{deleted_by}
 use Rattle.spe_exec.specs.Finding.{entry_named}
 use Rattle.spe_exec.specs.Inserts.{Carries, Gives, IsNamed, WhereNamed, record_size}
 use Rattle.spe_exec.specs.Updates.{CarriesRows, pages_of_written}
@@ -196,3 +199,11 @@ insert_rows g s new pages t (Select name all columns conds) outcome result is ca
 insert_rows g s new pages t (Count name conds) outcome result is carries = absurd (false≢true is)
 insert_rows g s new pages t (Update name sets conds) outcome result is carries = absurd (false≢true is)
 insert_rows g s new pages t (Delete name conds) outcome result is carries = absurd (false≢true is)
+
+-- a DELETE writes none
+pub delete_rows : {P : Type 0} (g : Ghosts P) (s new : P) (pages : Paging) (t : TableOf) (q : Statement) (name : List ℕ) (conds some : List Cond) (result : Result Reply TreeFault) → q ≡ Delete name conds → some ≡ conds
+    → CarriesRows g s new pages t 0 (deleted_by some t.rows) result
+    → CarriesRows g s new pages t (pages_of_written (g.used s) t.entry.table (written t.entry.table t.rows q)) (rows_answer t.entry.table t.rows q) result
+delete_rows g s new pages t q name conds some result e c carries =
+    let there : CarriesRows g s new pages t 0 (deleted_by conds t.rows) result = subst (λ (cs : List Cond). CarriesRows g s new pages t 0 (deleted_by cs t.rows) result) c carries in
+    rw e (subst (λ (o : List Row × Reply). CarriesRows g s new pages t 0 o result) (deleted_rows t.entry.table t.rows name conds) there)

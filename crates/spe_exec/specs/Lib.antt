@@ -9,3 +9,4 @@ pub mod Writes
 pub mod Justifying
 pub mod Changing
 pub mod Updates
+pub mod Deletes

@@ -1,9 +1,8 @@
 -- What a statement does to served pages, whatever the pages below a space are, as long as they agree with what was given.
-use Rattle.std.specs.Prelude.{◌≡◌, Bool, true, false, List, Some, Result, IfErr, IfOk}
+use Rattle.std.specs.Prelude.{◌≡◌, false, List, Some, Result, IfErr, IfOk}
 use Rattle.spe_model.specs.declared.catalog.Entry.{Entry}
 use Rattle.spe_model.specs.declared.reply.Reply.{Reply}
 use Rattle.spe_model.specs.declared.statement.Statement.{Statement}
-use Rattle.spe_model.specs.declared.statement.Statement.TheVariants.{Select, Count, Insert, Update, Delete}
 use Rattle.spe_model.specs.declared.transaction.TxKind.{TxKind}
 use Rattle.spe_model.specs.Database.{Database}
 use Rattle.spe_model.specs.Justified.{Opening}
@@ -22,14 +21,6 @@ use Rattle.spe_served.specs.Lists.{ListsStand}
 use Rattle.spe_exec.specs.Finding.{entry_named}
 use Rattle.spe_exec.specs.Inserts.{IsSound}
 use Rattle.spe_exec.specs.Updates.{pages_of_written}
-
--- the statements that are carried out: those that read, INSERT and UPDATE
-abbrev pub is_built : Statement → Bool
-is_built (Select name all columns conds) = true
-is_built (Count name conds) = true
-is_built (Insert name listed columns values) = true
-is_built (Update name sets conds) = true
-is_built (Delete name conds) = false
 
 -- whatever the pages are below the space, as long as they agree with what was given and are served for a database with this
 -- catalog

@@ -10,8 +10,9 @@ ghost use Rattle.spe_exec.specs.Inserts.{IsIdle, WhereNamed, WhereTable};
 ghost use Rattle.spe_exec.specs.Misses.{MissesOfStatement, MissesStatement};
 ghost use Rattle.spe_exec.specs.Run.{GivesMeaning, NamesTable};
 ghost use Rattle.spe_exec.specs.Updates.{CarriesRows, pages_of_written};
-ghost use Rattle.spe_exec.specs.Writes.{DoesMeaning, IsLikelyWrite, SparesStatement, is_built};
+ghost use Rattle.spe_exec.specs.Writes.{DoesMeaning, IsLikelyWrite, SparesStatement};
 
+use crate::deleting::delete;
 use crate::finding::{entry_named, table_name};
 use crate::inserting::insert;
 use crate::reads::read;
@@ -22,7 +23,7 @@ use spe_slow::rowless_refusal;
 use spe_space::{PageSpace, TreeFault};
 use std::alloc::Global;
 
-// What an INSERT or an UPDATE does to an open table, which does not refuse it whatever its rows are.
+// What a statement that writes does to an open table, which does not refuse it whatever its rows are.
 fn write_rows<S: PageSpace>(
     alloc: Global,
     space: &mut S,
@@ -30,7 +31,6 @@ fn write_rows<S: PageSpace>(
     statement: &Statement,
 ) -> Result<Reply, TreeFault>
     requires writes { is_write statement.now ≡ true }
-    requires built { is_built statement.now ≡ true }
     requires refusal { S.Pages.refusal space.old ≡ None }
     ensures carries { WhereTable S.Pages space.old space.new entry.now (λ pages t.
         CarriesRows S.Pages space.old space.new pages t (pages_of_written (S.Pages.used space.old) t.entry.table (written t.entry.table t.rows statement.now)) (rows_answer t.entry.table t.rows statement.now) result) }
@@ -43,13 +43,12 @@ fn write_rows<S: PageSpace>(
         Statement::Update { conds, .. } => {
             update(alloc, space, entry, statement, conds.as_slice())
         }
-        Statement::Select { .. } | Statement::Count { .. } | Statement::Delete { .. } => {
-            unreachable!()
-        }
+        Statement::Delete { conds, .. } => delete(alloc, space, entry, conds.as_slice()),
+        Statement::Select { .. } | Statement::Count { .. } => unreachable!(),
     }
 }
 
-// What an INSERT or an UPDATE does to the table that it names, in a transaction that may write.
+// What a statement that writes does to the table that it names, in a transaction that may write.
 fn write_table<S: PageSpace>(
     alloc: Global,
     space: &mut S,
@@ -57,7 +56,6 @@ fn write_table<S: PageSpace>(
     statement: &Statement,
 ) -> Result<Reply, TreeFault>
     requires writes { is_write statement.now ≡ true }
-    requires built { is_built statement.now ≡ true }
     requires refusal { S.Pages.refusal space.old ≡ None }
     ensures carries { WhereNamed S.Pages space.old space.new entry.now (λ pages t.
         CarriesRows S.Pages space.old space.new pages t (pages_of_written (S.Pages.used space.old) t.entry.table (written t.entry.table t.rows statement.now)) (table_answer t.entry.table t.rows statement.now) result) }
@@ -72,7 +70,7 @@ fn write_table<S: PageSpace>(
     }
 }
 
-// What an INSERT or an UPDATE does.
+// What a statement that writes does.
 fn write<S: PageSpace>(
     alloc: Global,
     space: &mut S,
@@ -81,7 +79,6 @@ fn write<S: PageSpace>(
     kind: TxKind,
 ) -> Result<Reply, TreeFault>
     requires writes { is_write statement.now ≡ true }
-    requires built { is_built statement.now ≡ true }
     requires refusal { S.Pages.refusal space.old ≡ None }
     ensures meaning { DoesMeaning S.Pages space.old space.new catalog.now kind statement.now result }
     ensures idle { IsIdle S.Pages space.old space.new result }
@@ -100,18 +97,22 @@ fn write<S: PageSpace>(
     }
 }
 
-/// Carries out a statement, a SELECT, a COUNT, an INSERT or an UPDATE, on the database for which the
-/// pages of a space stand, whose catalog is given.
+/// Carries out a statement on the database for which the pages of a space stand, whose catalog is given.
 ///
 /// A SELECT and a COUNT are as of `read`. An INSERT puts a row where the pages are served, and answers
 /// its rowid: the one given, or where there is none or it is NULL the one after the largest, 1 in a
 /// table without rows. One walk down the tree looks for the rowid and puts the row, and one before it
 /// looks for the largest where none is given. An UPDATE reads the rows that its conditions choose, makes
 /// their new records, and then gives each row its own, by one walk down the tree; it answers how many
-/// there are. A refusal is the lowest for which there is cause, and puts nothing. For each row that is
-/// written at most 128 pages are handed out, and those of its record's overflow chain. The faults are
-/// those of `insert_row`, `largest` and `find`, and of `chosen_pairs` and `replace_rows`. After a fault
-/// some pages may be put, and what was put is of no use.
+/// there are. A DELETE reads the rows that its conditions choose, all where it has none, and then takes
+/// out each, by one walk down the tree; it answers how many there were. A refusal is the lowest for which
+/// there is cause, and puts nothing.
+///
+/// For each row that is written at most 128 pages are handed out, and those of its record's overflow
+/// chain; for one that is taken out none. The faults are those of `insert_row`, `largest` and `find`, and
+/// of `chosen_pairs`, `replace_rows` and `remove_rows`; an UPDATE and a DELETE also call the leaf corrupt
+/// that holds a chosen row whose record is damaged or has fields for which the table has no columns. After
+/// a fault some pages may be put, and what was put is of no use.
 pub fn run<S: PageSpace>(
     alloc: Global,
     space: &mut S,
@@ -119,7 +120,6 @@ pub fn run<S: PageSpace>(
     statement: &Statement,
     kind: TxKind,
 ) -> Result<Reply, TreeFault>
-    requires built { is_built statement.now ≡ true }
     requires refusal { S.Pages.refusal space.old ≡ None }
     ensures meaning { DoesMeaning S.Pages space.old space.new catalog.now kind statement.now result }
     ensures read { is_write statement.now ≡ false → GivesMeaning S.Pages space.old space.new catalog.now kind statement.now result }
@@ -135,12 +135,11 @@ pub fn run<S: PageSpace>(
     ensures refusal { RefusesTree S.Pages space.old space.new result }
 {
     match statement {
-        Statement::Insert { .. } | Statement::Update { .. } => {
+        Statement::Insert { .. } | Statement::Update { .. } | Statement::Delete { .. } => {
             write(alloc, space, catalog, statement, kind)
         }
         Statement::Select { .. } | Statement::Count { .. } => {
             read(alloc, space, catalog, statement, kind)
         }
-        Statement::Delete { .. } => unreachable!(),
     }
 }

@@ -2,3 +2,4 @@ pub mod OrderLemmas
 pub mod RowsLemmas
 pub mod ServedLemmas
 pub mod ManyLemmas
+pub mod RemovalLemmas

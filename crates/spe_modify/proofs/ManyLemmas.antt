@@ -24,7 +24,7 @@ use Rattle.spe_modify.specs.Rows.{IsChanging, IsPart, IsShort, SparesRows, Turns
 use Rattle.spe_modify.proofs.ServedLemmas.{alone_there}
 
 -- no row has the rowid, so all stay
-first_other : (a b : Bool) → (a || b) ≡ false → (a ≡ false) × (b ≡ false)
+pub first_other : (a b : Bool) → (a || b) ≡ false → (a ≡ false) × (b ≡ false)
 first_other true b e = absurd cc
 first_other false b e = (refl, e)
 
@@ -52,7 +52,7 @@ more_room g more s new pages xs ys n x = record {
 }
 
 -- the table with its own rows
-own_rows : (t : TableOf) → with_rows t.name t.rows t.db ≡ t.db → table_with t t.rows ≡ t
+pub own_rows : (t : TableOf) → with_rows t.name t.rows t.db ≡ t.db → table_with t t.rows ≡ t
 own_rows t same = ap (λ (db : Database). record { opening = t.opening; db = db; name = t.name; entry = t.entry; rows = t.rows }) same
 
 -- one that is not there does not
@@ -69,7 +69,7 @@ passed g more s new pages root t rowid row allocs is key lacks =
     }
 
 -- a database whose table gets rows twice
-rows_twice : (name : List ℕ) (first second : List Row) (db : Database) → with_rows name second (with_rows name first db) ≡ with_rows name second db
+pub rows_twice : (name : List ℕ) (first second : List Row) (db : Database) → with_rows name second (with_rows name first db) ≡ with_rows name second db
 rows_twice name first second [] = refl
 rows_twice name first second ((rowid, Table table rows) ∷ others) = elim (cases_Bool (agree table.name name)) [
   | inl it ↦ rw (it, it) refl
@@ -96,7 +96,7 @@ rows_found name new ((rowid, Table first held) ∷ others) table rows found = el
 rows_found name new ((rowid, Other kind named on) ∷ others) table rows found = rows_found name new others table rows found
 
 -- the table is open with its other rows
-open_with : {P : Type 0} (g : Ghosts P) (s new : P) (pages : Paging) (root : ℕ) (t : TableOf) (rows : List Row) → IsOpen g s pages root t → IsServed g t.opening new pages (with_rows t.name rows t.db)
+pub open_with : {P : Type 0} (g : Ghosts P) (s new : P) (pages : Paging) (root : ℕ) (t : TableOf) (rows : List Row) → IsOpen g s pages root t → IsServed g t.opening new pages (with_rows t.name rows t.db)
     → IsOpen g new pages root (table_with t rows)
 open_with g s new pages root t rows is served = record {
   lists = is.lists;
