@@ -1,5 +1,5 @@
 -- A walk over a tree that gathers its leaves.
-use Rattle.std.proofs.Common.{◌≡◌, ◌≢◌, ◌⊎◌, ℕ, zero, suc, ◌+◌, ◌-◌, ◌<◌, ◌≤◌, ◌∙◌, Bool, true, false, List, [], ◌∷◌, ◌++◌, Result, Ok, Err, take, drop, length, get_or, refl, sym, ap, subst, arith, append_assoc, inl, inr}
+use Rattle.std.proofs.Common.{◌≡◌, ◌⊎◌, ℕ, zero, suc, ◌+◌, ◌-◌, ◌<◌, ◌≤◌, ◌∙◌, Bool, true, false, List, [], ◌∷◌, ◌++◌, Result, Ok, Err, take, drop, length, get_or, refl, sym, ap, subst, arith, append_assoc, inl, inr}
 use Rattle.std.specs.List.{flat_map}
 use Rattle.std.proofs.lemmas.List.{append-nil, take_all}
 use Rattle.spe_model.specs.declared.page.Cell.{Cell}
@@ -389,8 +389,14 @@ module _ {P : Type 0} (g : Ghosts P) (laws : HaveLaws g) (s a : P) (pages : Pagi
     after_parts : AreSame own (pages_in us ps h after ++ (mine ++ is.done))
     after_parts n =
         let whole = mine_parts n in
-        omega (arith, whole, times-append n mine (pages_in us ps h after ++ is.done), times-append n (pages_in us ps h after) is.done,
-        times-append n (pages_in us ps h after) (mine ++ is.done), times-append n mine is.done)
+        omega (
+          arith,
+          whole,
+          times-append n mine (pages_in us ps h after ++ is.done),
+          times-append n (pages_in us ps h after) is.done,
+          times-append n (pages_in us ps h after) (mine ++ is.done),
+          times-append n mine is.done,
+        )
 
     pub gathering_on : (b : P) (new : Leaves) → SeesTree g a b pages h c.left → GathersTree g a pages h c.left now new → IsGathering g s b pages h high all after old new
     gathering_on b new sees gathers =

@@ -1,11 +1,10 @@
 -- A tree whose rows fit its root.
-use Rattle.std.proofs.Common.{◌≡◌, ℕ, zero, suc, ◌+◌, ◌-◌, ◌<◌, ◌≤◌, ◌∙◌, true, List, [], ◌∷◌, ◌++◌, take, drop, length, refl, sym, ap, subst, arith}
+use Rattle.std.proofs.Common.{◌≡◌, ℕ, zero, suc, ◌+◌, ◌-◌, ◌≤◌, ◌∙◌, true, List, [], ◌∷◌, ◌++◌, take, drop, length, refl, sym, ap, subst, arith}
 use Rattle.std.specs.Bool.{◌==◌}
 use Rattle.std.specs.List.{flat_map}
 use Rattle.std.proofs.lemmas.Bool.{eqb-true}
 use Rattle.std.proofs.lemmas.List.{length-append, take_all}
 use Rattle.spe_model.specs.declared.page.Cell.{Cell}
-use Rattle.spe_model.specs.declared.page.Kind.TheVariants.{TableLeaf}
 use Rattle.spe_model.specs.Page.{ascends}
 use Rattle.spe_model.specs.Paging.{Paging}
 use Rattle.spe_model.specs.Standing.{all_pages, chain_pages}
@@ -15,7 +14,7 @@ use Rattle.spe_space.specs.Calls.{Reads, sight}
 use Rattle.spe_frame.specs.Held.{AreHeld, Shifts, Spares}
 use Rattle.spe_frame.specs.Times.{AreSame, HoldsOf, Lacks, times}
 use Rattle.spe_cut.specs.Joined.{AreGathered, RunIsGathered, cells_under}
-use Rattle.spe_cut.specs.Parts.{leaf_cells, need, room}
+use Rattle.spe_cut.specs.Parts.{leaf_cells}
 use Rattle.spe_cut.specs.Rows.{RowsAscend}
 use Rattle.spe_cut.specs.Run.{alone}
 use Rattle.spe_insert.specs.Laws.{HaveLaws}

@@ -55,7 +55,15 @@ pub(crate) fn gather_below<S: Pages>(
     match kind {
         Kind::TableLeaf => Ok(add_cells(leaves, cells)?),
         Kind::TableInterior => {
-            gather_children(alloc, space, cells.as_slice(), right, levels - 1, leaves, buf)
+            gather_children(
+                alloc,
+                space,
+                cells.as_slice(),
+                right,
+                levels - 1,
+                leaves,
+                buf,
+            )
         }
         Kind::IndexLeaf | Kind::IndexInterior => Err(TreeFault::Corrupt { page }),
     }

@@ -3,7 +3,8 @@
 //! A leaf that has the row is put without its cell, and then the pages of its chain are made free. A leaf
 //! without a cell goes from the page above it, where that has two cells at least; `take_row` makes these
 //! two steps. Two neighbours whose cells fit one page become that page. A root whose only child is left
-//! takes what that has, and a tree whose rows fit its root becomes the root alone. Each step says of pages in use elsewhere that they stay, whatever it answers.
+//! takes what that has, and a root whose tree's rows fit it becomes all of the tree. Each step says of
+//! pages in use elsewhere that they stay, whatever it answers.
 #![tactic(auto)]
 
 mod below;

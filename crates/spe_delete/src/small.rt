@@ -68,11 +68,7 @@ fn put_leaves<S: PageSpace>(
 /// page than page 1 and is put once. Corrupt names a page that is no legal page of a table or would be
 /// the tree's 21st level, or the root, where the rowids do not ascend. It fails as `get`, `put` and
 /// `free` do. ("B-tree Pages" in SQLite's Database File Format.)
-pub fn gather_tree<S: PageSpace>(
-    alloc: Global,
-    space: &mut S,
-    root: u32,
-) -> Result<bool, TreeFault>
+pub fn gather_tree<S: PageSpace>(alloc: Global, space: &mut S, root: u32) -> Result<bool, TreeFault>
     ensures gathered { IfOk result (λ did. did ≡ true → WhereHeldTree S.Pages space.old space.new 20 root (λ pages height low high.
         IsAlone S.Pages space.old space.new pages height low high root)) }
     ensures stays { IfOk result (λ did. did ≡ false → WhereHeldTree S.Pages space.old space.new 20 root (λ pages height low high.

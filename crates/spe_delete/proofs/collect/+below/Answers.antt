@@ -1,8 +1,7 @@
-use Rattle.std.proofs.Common.{◌≡◌, ◌<◌, ◌≤◌, ◌∙◌, ℕ, suc, ◌-◌, ◌+◌, List, [], ◌∷◌, take, drop, length, Bool, true, false, Err, refl, sym, ap, subst, arith, inl, inr}
+use Rattle.std.proofs.Common.{◌≡◌, ◌<◌, ◌∙◌, ℕ, ◌-◌, ◌+◌, List, [], ◌∷◌, take, drop, length, Bool, Err, refl, ap, subst, arith}
 use Rattle.std.proofs.lemmas.Result.{IfOk-weaker}
 use Rattle.spe_model.specs.declared.page.Cell.{Cell}
-use Rattle.spe_model.specs.Paging.{Agrees, Paging}
-use Rattle.spe_space.specs.Calls.{Reads, reads_both, sight}
+use Rattle.spe_space.specs.Calls.{reads_both, sight}
 use Rattle.spe_cut.specs.Joined.{cells_below, cells_under}
 use Rattle.spe_cut.specs.Parts.{need}
 use Rattle.spe_cut.specs.Run.{Run}
@@ -10,7 +9,7 @@ use Rattle.spe_model.specs.Tree.{rank}
 use Rattle.spe_write.specs.Chain.{IsLikelyOfTree}
 use Rattle.spe_model.specs.declared.page.Kind.TheVariants.{TableLeaf}
 use Rattle.spe_delete.specs.declared.leaves.Leaves.{Leaves}
-use Rattle.spe_delete.specs.Leaves.{Gains, GathersTree, GathersRun, IsHeldRun, IsHeldTree, SeesRun, SeesTree, StaysSound, run_with}
+use Rattle.spe_delete.specs.Leaves.{Gains, GathersTree, GathersRun, SeesTree, StaysSound, run_with}
 use Rattle.spe_delete.proofs.BelowLemmas.{was_so}
 use Rattle.spe_delete.proofs.CollectLemmas.{IsAtRun, IsGathering, at_run, cell_off, first_next, gathering_begins, gathering_ends, gathering_on, gathering_over, index_there, interior_gathers, interior_over, last_next, last_over, leaf_gathers, leaf_over, leaf_sound, less_down, none_left, noted, refuses_then, run_back, sound_both, top_held, tree_got, tree_node}
 use Rattle.spe_delete.proofs.collect.+below.Goals as goal
@@ -56,7 +55,7 @@ gather_below-returns-in_ok-add_cells-in-TableLeaf-clause-over g t c = λ over pa
     leaf_over g.S.Pages c.args.space.now pages low high c.args.page c.in-Ok.node (c.in-Ok.ensures.node pages agrees) old mid height c.in-TableLeaf.is held.tree first (c.in_ok-add_cells-in-TableLeaf.ensures.over over)
 
 pub gather_below-returns-in_ok-add_cells-in-TableLeaf-clause-sound : goal.gather_below-returns-in_ok-add_cells-in-TableLeaf-clause-sound
-gather_below-returns-in_ok-add_cells-in-TableLeaf-clause-sound g t c = 
+gather_below-returns-in_ok-add_cells-in-TableLeaf-clause-sound g t c =
     let old = c.args.leaves.now in
     let mid : Leaves = record { cells = c.args.leaves.now.cells; pages = c.push.new.self; left = c.args.leaves.now.left } in
     let first : Gains old mid [] (c.args.page ∷ []) = noted old mid c.args.page refl refl c.in_ok-push.ensures.items in
@@ -143,23 +142,23 @@ gather_below-returns-in-IndexLeaf-clause-likely g t c = λ pages height low high
 
 pub gather_children-children-init : goal.gather_children-children-init
 gather_children-children-init g t c = record {
-      reads = record {
-        earlier = λ pages agrees. agrees;
-        laid = refl;
-        free = refl;
-        stands = λ pages agrees stood. stood;
-        told = refl;
-        size = refl;
-        used = refl;
-        limit = refl;
-        sealed = refl;
-        count = omega arith;
-      };
-      refusal = refl;
-      sound = record { writable = λ are. are; counted = refl };
-      gathered = λ pages height low high agrees less held.
-          gathering_begins g.S.Pages c.below_law.ensures c.args.space.now pages height low high (run_with c.args.cells.now c.args.right) c.args.leaves.now held;
-    }
+  reads = record {
+    earlier = λ pages agrees. agrees;
+    laid = refl;
+    free = refl;
+    stands = λ pages agrees stood. stood;
+    told = refl;
+    size = refl;
+    used = refl;
+    limit = refl;
+    sealed = refl;
+    count = omega arith;
+  };
+  refusal = refl;
+  sound = record { writable = λ are. are; counted = refl };
+  gathered = λ pages height low high agrees less held.
+      gathering_begins g.S.Pages c.below_law.ensures c.args.space.now pages height low high (run_with c.args.cells.now c.args.right) c.args.leaves.now held;
+}
 
 pub gather_children-returns-in-Ok-false-clause-over : goal.gather_children-returns-in-Ok-false-clause-over
 gather_children-returns-in-Ok-false-clause-over g t c = λ _ pages height low high agrees less held.
@@ -199,7 +198,7 @@ gather_children-returns-in-Ok-false-clause-sees g t c = λ pages height low high
     next.up e (c.in-Ok-false.ensures.sees pages height is.low (rank cell.key + 1) agrees less next.held)
 
 pub gather_children-returns-in-Ok-false-clause-sound : goal.gather_children-returns-in-Ok-false-clause-sound
-gather_children-returns-in-Ok-false-clause-sound g t c = 
+gather_children-returns-in-Ok-false-clause-sound g t c =
     sound_both (g.S.Pages.used c.args.space.now) c.args.leaves.now c.children.leaves c.gather_below.new.leaves c.children.invariant.sound
     (subst (λ (u : ℕ). StaysSound u c.children.leaves c.gather_below.new.leaves) c.children.invariant.reads.used c.in-Ok-false.ensures.sound)
 
@@ -252,7 +251,7 @@ pub gather_children-returns-in-Err-clause-refusal : goal.gather_children-returns
 gather_children-returns-in-Err-clause-refusal g t c = refuses_then {X = Bool} g.S.Pages c.args.space.now c.children.space c.gather_below.new.space (Err c.in-Err.fault) c.children.invariant.refusal c.in-Err.ensures.refusal
 
 pub gather_children-children-preserved : goal.gather_children-children-preserved
-gather_children-children-preserved g t c = 
+gather_children-children-preserved g t c =
     let s = c.args.space.now in
     let a = c.children.space in
     let e = c.gather_below.new.space in
@@ -266,15 +265,15 @@ gather_children-children-preserved g t c =
       reads = reads_both g.S.Pages s a e reads c.in-Ok-true.ensures.reads;
       refusal = c.in-Ok-true.ensures.refusal ∙ c.children.invariant.refusal;
       sound = sound_both (g.S.Pages.used c.args.space.now) c.args.leaves.now c.children.leaves c.gather_below.new.leaves c.children.invariant.sound
-    (subst (λ (u : ℕ). StaysSound u c.children.leaves c.gather_below.new.leaves) c.children.invariant.reads.used c.in-Ok-true.ensures.sound);
+          (subst (λ (u : ℕ). StaysSound u c.children.leaves c.gather_below.new.leaves) c.children.invariant.reads.used c.in-Ok-true.ensures.sound);
       gathered = λ pages height low high agrees less held.
-    let agrees_a = c.in-Ok-true.ensures.reads.earlier pages agrees in
-    let was : IsGathering g.S.Pages s a pages height high all (run_with left c.args.right) c.args.leaves.now c.children.leaves = c.children.invariant.gathered pages height low high agrees_a less held in
-    let is : IsGathering g.S.Pages s a pages height high all (run_with (cell ∷ rest) c.args.right) c.args.leaves.now c.children.leaves =
-    subst (λ (cs : List Cell). IsGathering g.S.Pages s a pages height high all (run_with cs c.args.right) c.args.leaves.now c.children.leaves) off was in
-    let next = first_next g.S.Pages c.below_law.ensures s a pages height low high all held reads cell rest c.args.right c.args.leaves.now c.children.leaves is in
-    gathering_on g.S.Pages c.below_law.ensures s a pages height low high all held reads cell rest c.args.right c.args.leaves.now c.children.leaves is e c.gather_below.new.leaves
-    (c.in-Ok-true.ensures.sees pages height is.low (rank cell.key + 1) agrees less next.held) (c.in-Ok-true.ensures.gathers c.in-Ok-true.field-0-test pages height is.low (rank cell.key + 1) agrees less next.held);
+          let agrees_a = c.in-Ok-true.ensures.reads.earlier pages agrees in
+          let was : IsGathering g.S.Pages s a pages height high all (run_with left c.args.right) c.args.leaves.now c.children.leaves = c.children.invariant.gathered pages height low high agrees_a less held in
+          let is : IsGathering g.S.Pages s a pages height high all (run_with (cell ∷ rest) c.args.right) c.args.leaves.now c.children.leaves =
+          subst (λ (cs : List Cell). IsGathering g.S.Pages s a pages height high all (run_with cs c.args.right) c.args.leaves.now c.children.leaves) off was in
+          let next = first_next g.S.Pages c.below_law.ensures s a pages height low high all held reads cell rest c.args.right c.args.leaves.now c.children.leaves is in
+          gathering_on g.S.Pages c.below_law.ensures s a pages height low high all held reads cell rest c.args.right c.args.leaves.now c.children.leaves is e c.gather_below.new.leaves
+          (c.in-Ok-true.ensures.sees pages height is.low (rank cell.key + 1) agrees less next.held) (c.in-Ok-true.ensures.gathers c.in-Ok-true.field-0-test pages height is.low (rank cell.key + 1) agrees less next.held);
     }
 
 pub gather_children-returns-clause-gathers : goal.gather_children-returns-clause-gathers

@@ -1,6 +1,4 @@
-use Rattle.std.proofs.Common.{◌≡◌, ◌∙◌, ◌-◌, ◌≤◌, ℕ, List, take, drop, length, refl, sym, arith}
-use Rattle.spe_space.specs.Calls.{sight}
-use Rattle.spe_delete.specs.Leaves.{GathersTree, SeesTree}
+use Rattle.std.proofs.Common.{◌∙◌, ◌≤◌, refl, arith}
 use Rattle.spe_delete.proofs.SmallLemmas.{becomes_alone, own_fails, own_held, own_later, rows_ascend, stays_first, stays_single}
 use Rattle.spe_delete.proofs.small.gather_tree.Goals as goal
 
