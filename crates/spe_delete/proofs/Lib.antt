@@ -1,5 +1,6 @@
 pub mod BelowLemmas
 pub mod ChildLemmas
+pub mod CollectLemmas
 pub mod CutLemmas
 pub mod DropLemmas
 pub mod FewerLemmas
@@ -10,3 +11,4 @@ pub mod MergeLemmas
 pub mod PagesLemmas
 pub mod RootLemmas
 pub mod RowLemmas
+pub mod SmallLemmas

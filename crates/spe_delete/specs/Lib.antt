@@ -2,6 +2,7 @@ pub mod Gather
 pub mod Join
 pub mod JoinCells
 pub mod Leaf
+pub mod Leaves
 pub mod Below
 pub mod Child
 pub mod Merge
