@@ -147,7 +147,13 @@ fn failed(failure: Failure) -> Run
 }
 
 // Serves clients over recovered pages that break no rule of the check.
-fn serve_sound<D: Disk, G: Gate>(alloc: Global, disk: D, found: &Recovered, gate: &G, clients: Clients) -> (Run, D)
+fn serve_sound<D: Disk, G: Gate>(
+    alloc: Global,
+    disk: D,
+    found: &Recovered,
+    gate: &G,
+    clients: Clients,
+) -> (Run, D)
     requires attached { D.attached disk ≡ true }
     requires limits { IsWithinLimits found.now }
     requires sound { IfTold (D.told disk) (IsSoundBy found.now) }
@@ -169,7 +175,13 @@ fn serve_sound<D: Disk, G: Gate>(alloc: Global, disk: D, found: &Recovered, gate
 }
 
 // Serves clients over recovered pages in server form.
-fn serve_found<D: Disk, G: Gate>(alloc: Global, disk: D, found: &Recovered, gate: &G, clients: Clients) -> (Run, D)
+fn serve_found<D: Disk, G: Gate>(
+    alloc: Global,
+    disk: D,
+    found: &Recovered,
+    gate: &G,
+    clients: Clients,
+) -> (Run, D)
     requires attached { D.attached disk ≡ true }
     requires limits { IsWithinLimits found.now }
     requires found { IfTold (D.told disk) (IsRecoveredBy found.now) }
@@ -206,7 +218,12 @@ fn unrecovered(fault: RecoverFault) -> Run
 }
 
 // Serves clients over the files that are attached, which are recovered first.
-fn serve_attached<D: Disk, G: Gate>(alloc: Global, mut disk: D, gate: &G, clients: Clients) -> (Run, D)
+fn serve_attached<D: Disk, G: Gate>(
+    alloc: Global,
+    mut disk: D,
+    gate: &G,
+    clients: Clients,
+) -> (Run, D)
     requires attached { D.attached disk ≡ true }
     requires fresh { NothingDone (D.told disk) }
     requires there { IfTold (D.told disk) (λ h. is_none (file_of h.first Database) ≡ false) }
@@ -223,7 +240,13 @@ fn serve_attached<D: Disk, G: Gate>(alloc: Global, mut disk: D, gate: &G, client
 }
 
 // Serves clients over a database.
-fn serve_clients<D: Disk, G: Gate>(alloc: Global, database: &Text, mut disk: D, gate: &G, clients: Clients) -> (Run, D)
+fn serve_clients<D: Disk, G: Gate>(
+    alloc: Global,
+    database: &Text,
+    mut disk: D,
+    gate: &G,
+    clients: Clients,
+) -> (Run, D)
     requires attached { D.attached disk ≡ false }
     ensures run { WhereKnown (D.told disk) (D.told result.1) (λ h. IsRunOver clients h result.0) }
     ensures orderly { IsRunFor clients result.0 }

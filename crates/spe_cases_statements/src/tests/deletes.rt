@@ -48,7 +48,11 @@ static CHOSEN: [Step; 15] = [
             &[Int(3), Zeros(3000)],
         ]),
     ),
-    (ReadWrite, Delete("a", &[("id", GreaterEqual, 2)]), Changed(1)),
+    (
+        ReadWrite,
+        Delete("a", &[("id", GreaterEqual, 2)]),
+        Changed(1),
+    ),
     (
         ReadOnly,
         Select("a", true, &[], &[]),
