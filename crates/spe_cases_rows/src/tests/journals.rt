@@ -4,7 +4,7 @@ ghost use Rattle.std.specs.Prelude.{◌≡◌, false, IfOk};
 ghost use Rattle.spe_disk.specs.Memory.{is_attached};
 
 use super::files::{PEOPLE, TWO, file_of, journal, lay, put, two};
-use super::run::{disk_of, expect_row, is_ended, load, run_over};
+use super::run::{Ended, disk_of, expect_row, is_ended, load, run_over};
 use spe_disk::{MemDisk, stopped_at};
 use std::alloc::{AllocError, Global};
 use std::sync::Wait;
@@ -164,15 +164,33 @@ fn is_sound_again<R: Threads + Wait + Sync>(
     is_sound(rt, alloc, stopped, case.1)
 }
 
+fn three_run<R: Threads + Wait + Sync>(
+    rt: &R,
+    alloc: Global,
+) -> Result<Ended<MemDisk>, AllocError> {
+    let disk = three(alloc)?;
+    run_over(rt, alloc, &WORDS, disk)
+}
+
+// Whether a check found all sound, and another one after a stop does.
+fn has_held<R: Threads + Wait + Sync>(
+    rt: &R,
+    alloc: Global,
+    first: &Ended<MemDisk>,
+    case: (usize, u64),
+) -> Result<bool, AllocError> {
+    let sound = is_ended(first, 0, SOUND, 6);
+    let again = is_sound_again(rt, alloc, &first.disk, case)?;
+    Ok(sound && again)
+}
+
 fn holds<R: Threads + Wait + Sync>(
     rt: &R,
     alloc: Global,
     case: (usize, u64),
 ) -> Result<bool, AllocError> {
-    let first = run_over(rt, alloc, &WORDS, three(alloc)?)?;
-    let sound = is_ended(&first, 0, SOUND, 6);
-    let again = is_sound_again(rt, alloc, &first.disk, case)?;
-    Ok(sound && again)
+    let first = three_run(rt, alloc)?;
+    has_held(rt, alloc, &first, case)
 }
 
 #[test]
@@ -268,11 +286,18 @@ fn grown_disk(alloc: Global) -> Result<MemDisk, AllocError>
     Ok(disk)
 }
 
+fn grown_run<R: Threads + Wait + Sync>(
+    rt: &R,
+    alloc: Global,
+) -> Result<Ended<MemDisk>, AllocError> {
+    let disk = grown_disk(alloc)?;
+    run_over(rt, alloc, &WORDS, disk)
+}
+
 #[test]
 fn grown_file(rt: HostRuntime) -> Result<(), Fail> {
-    let disk = grown_disk(rt.alloc())?;
-    let text = "ok pages 22 tables 2 rows 64 free 16\n";
-    let ended = run_over(&rt, rt.alloc(), &WORDS, disk)?;
-    expect_row(&rt, text, 0, is_ended(&ended, 0, text.as_bytes(), 2));
+    let text = b"ok pages 22 tables 2 rows 64 free 16\n";
+    let ended = grown_run(&rt, rt.alloc())?;
+    expect_row(&rt, "grown", 22, is_ended(&ended, 0, text, 2));
     Ok(())
 }

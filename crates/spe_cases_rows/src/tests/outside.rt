@@ -7,7 +7,7 @@ use super::files::{PEOPLE, Patch, file_of, lay, two};
 use super::run::{
     Ended, disk_of, ended_of, expect, expect_of, expect_row, is_ended, run_over, sink_of, words_of,
 };
-use spe_disk::MemDisk;
+use spe_disk::{MemDisk, MemSink};
 use std::alloc::{AllocError, Global};
 use std::process::Abort;
 use std::sync::Wait;
@@ -287,17 +287,26 @@ fn failing_reads_of_a_check(rt: HostRuntime) -> Result<(), Fail> {
     Ok(())
 }
 
-// Whether a run whose sink takes eight bytes once and then fails ends so.
+// A run whose sink takes eight bytes once and then fails.
+fn sunk_run<R: Threads + Wait + Sync>(
+    rt: &R,
+    alloc: Global,
+    asked: Asked,
+    sink: MemSink,
+) -> Result<Ended<MemDisk>, AllocError> {
+    let disk = disk_for(alloc, asked, 0)?;
+    let words = words_of(alloc, words_for(asked))?;
+    Ok(ended_of(rt, alloc, words, disk, sink))
+}
+
 fn sink_fails<R: Threads + Wait + Sync>(
     rt: &R,
     alloc: Global,
     asked: Asked,
     text: &[u8],
 ) -> Result<bool, AllocError> {
-    let words = words_of(alloc, words_for(asked))?;
-    let disk = disk_for(alloc, asked, 0)?;
     let sink = sink_of(alloc, 8, &[2])?;
-    let ended = ended_of(rt, alloc, words, disk, sink);
+    let ended = sunk_run(rt, alloc, asked, sink)?;
     Ok(is_ended(&ended, 3, text, 0))
 }
 

@@ -35,13 +35,16 @@ fn both_run<R: Threads + Wait + Sync>(rt: &R, alloc: Global) -> Result<Ended, Al
     run_of(rt, alloc, &BOTH_WORDS, &BOTH_SCRIPTS, disk)
 }
 
+fn has_both(ended: &Ended) -> bool {
+    let ordered = ended.finished.order.as_slice() == BOTH_ORDER.as_slice();
+    is_ended(ended, 0, BOTH_TEXT, 24) && ordered
+}
+
 // 16 journals are made; then each client writes the head, a record, its page, and cuts its journal.
 #[test]
 fn both(rt: HostRuntime) -> Result<(), Fail> {
     let ended = both_run(&rt, rt.alloc())?;
-    let printed = is_ended(&ended, 0, BOTH_TEXT, 24);
-    let ordered = ended.finished.order.as_slice() == BOTH_ORDER.as_slice();
-    expect(&rt, "both", 0, printed && ordered);
+    expect(&rt, "both", 0, has_both(&ended));
     Ok(())
 }
 
@@ -71,12 +74,21 @@ fn expect_stops<R: Threads + Wait + Sync + Abort>(
     Ok(())
 }
 
+fn expect_all_stops<R: Threads + Wait + Sync + Abort>(
+    rt: &R,
+    alloc: Global,
+    disk: &MemDisk,
+) -> Result<(), AllocError> {
+    for bytes in [0, 1, 511, 519] {
+        expect_stops(rt, alloc, disk, bytes)?;
+    }
+    Ok(())
+}
+
 #[test]
 fn stopped(rt: HostRuntime) -> Result<(), Fail> {
     let ended = both_run(&rt, rt.alloc())?;
-    for bytes in [0, 1, 511, 519] {
-        expect_stops(&rt, rt.alloc(), &ended.disk, bytes)?;
-    }
+    expect_all_stops(&rt, rt.alloc(), &ended.disk)?;
     Ok(())
 }
 
@@ -101,10 +113,12 @@ fn left_of(there: bool) -> &'static Left {
 fn expect_first<R: Threads + Wait + Sync + Abort>(
     rt: &R,
     alloc: Global,
-    disk: &MemDisk,
+    ended: &Ended,
 ) -> Result<(), AllocError> {
+    let text = "client 1\ntx 1 commit 1\n  inserted 1\n";
+    expect(rt, "first", 0, is_ended(ended, 0, text, 20));
     for (ops, bytes, there) in &STOPS {
-        let holds = leaves(rt, alloc, disk, (*ops, *bytes), left_of(*there))?;
+        let holds = leaves(rt, alloc, &ended.disk, (*ops, *bytes), left_of(*there))?;
         expect(rt, "first", *ops as u64, holds);
     }
     Ok(())
@@ -113,8 +127,6 @@ fn expect_first<R: Threads + Wait + Sync + Abort>(
 #[test]
 fn first(rt: HostRuntime) -> Result<(), Fail> {
     let ended = first_run(&rt, rt.alloc())?;
-    let text = "client 1\ntx 1 commit 1\n  inserted 1\n";
-    expect(&rt, "first", 0, is_ended(&ended, 0, text, 20));
-    expect_first(&rt, rt.alloc(), &ended.disk)?;
+    expect_first(&rt, rt.alloc(), &ended)?;
     Ok(())
 }

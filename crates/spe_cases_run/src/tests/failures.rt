@@ -221,17 +221,36 @@ fn tells_failure(ended: &Ended, read: u64) -> bool {
     }
 }
 
+fn misread_run<R: Threads + Wait + Sync>(
+    rt: &R,
+    alloc: Global,
+    read: u64,
+) -> Result<Ended, AllocError> {
+    let disk = misread_disk(alloc, read)?;
+    run_of(rt, alloc, &WORDS, &BOTH_SCRIPTS, disk)
+}
+
+// Whether a run tells that a reading call failed, and leaves the rows of the commits.
+fn has_misread<R: Threads + Wait + Sync>(
+    rt: &R,
+    alloc: Global,
+    ended: &Ended,
+    read: u64,
+) -> Result<bool, AllocError> {
+    let told = tells_failure(ended, read);
+    let left = left_by(has_committed(ended, 1), has_committed(ended, 2));
+    let same = leaves(rt, alloc, &ended.disk, ALL, left)?;
+    Ok(told && same)
+}
+
 // A reading call that fails: the rows are those of the commits.
 fn fails_to_read<R: Threads + Wait + Sync>(
     rt: &R,
     alloc: Global,
     read: u64,
 ) -> Result<bool, AllocError> {
-    let disk = misread_disk(alloc, read)?;
-    let ended = run_of(rt, alloc, &WORDS, &BOTH_SCRIPTS, disk)?;
-    let left = left_by(has_committed(&ended, 1), has_committed(&ended, 2));
-    let same = leaves(rt, alloc, &ended.disk, ALL, left)?;
-    Ok(tells_failure(&ended, read) && same)
+    let ended = misread_run(rt, alloc, read)?;
+    has_misread(rt, alloc, &ended, read)
 }
 
 #[test]

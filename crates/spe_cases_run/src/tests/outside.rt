@@ -53,10 +53,21 @@ fn is_front(ended: &Ended, most: usize) -> bool {
         && ended.finished.order.as_slice().len() == 2
 }
 
+// Whether this was taken, and both transactions are there all the same.
+fn has_sunk<R: Threads + Wait + Sync>(
+    rt: &R,
+    alloc: Global,
+    ended: &Ended,
+    most: usize,
+) -> Result<bool, AllocError> {
+    let front = is_front(ended, most);
+    let left = leaves(rt, alloc, &ended.disk, ALL, &BOTH)?;
+    Ok(front && left)
+}
+
 fn sinks<R: Threads + Wait + Sync>(rt: &R, alloc: Global, most: usize) -> Result<bool, AllocError> {
     let ended = sunk_run(rt, alloc, most)?;
-    let left = leaves(rt, alloc, &ended.disk, ALL, &BOTH)?;
-    Ok(is_front(&ended, most) && left)
+    has_sunk(rt, alloc, &ended, most)
 }
 
 // Printing comes after all transactions.
@@ -69,8 +80,11 @@ fn sink(rt: HostRuntime) -> Result<(), Fail> {
     Ok(())
 }
 
-// Scripts, the reading of them that fails, the status and what is printed. All are read before one is parsed.
-static UNREAD: [(&[Script], u64, u8, &str); 5] = [
+// Scripts, the reading of them that fails, the status and what is printed.
+type Unread = (&'static [Script], u64, u8, &'static str);
+
+// All are read before one is parsed.
+static UNREAD: [Unread; 5] = [
     (&[("s1", b""), ("s2", b"")], 1, 3, "fault scripts\n"),
     (&[("s1", b""), ("s2", b"")], 2, 3, "fault scripts\n"),
     (&[("s1", b"COMMIT"), ("s2", b"")], 2, 3, "fault scripts\n"),
@@ -89,11 +103,21 @@ fn unread_run<R: Threads + Wait + Sync>(
     ended_with(rt, alloc, &WORDS, &mut scripts, sink)
 }
 
+fn is_unread<R: Threads + Wait + Sync>(
+    rt: &R,
+    alloc: Global,
+    case: &Unread,
+) -> Result<bool, AllocError> {
+    let (texts, read, status, text) = case;
+    let ended = unread_run(rt, alloc, *texts, *read)?;
+    Ok(is_ended(&ended, *status, *text, 0))
+}
+
 #[test]
 fn unread(rt: HostRuntime) -> Result<(), Fail> {
-    for (texts, read, status, text) in &UNREAD {
-        let ended = unread_run(&rt, rt.alloc(), *texts, *read)?;
-        expect(&rt, *text, *read, is_ended(&ended, *status, *text, 0));
+    for case in &UNREAD {
+        let holds = is_unread(&rt, rt.alloc(), case)?;
+        expect(&rt, case.3, case.1, holds);
     }
     Ok(())
 }
@@ -166,11 +190,25 @@ fn leaves_many<R: Threads + Wait + Sync>(
     Ok(checked && there)
 }
 
+// Whether they are printed and there.
+fn has_many<R: Threads + Wait + Sync>(
+    rt: &R,
+    alloc: Global,
+    ended: &Ended,
+) -> Result<bool, AllocError> {
+    let told = tells_many(ended);
+    let left = leaves_many(rt, alloc, &ended.disk)?;
+    Ok(told && left)
+}
+
+fn puts_many<R: Threads + Wait + Sync>(rt: &R, alloc: Global) -> Result<bool, AllocError> {
+    let ended = many_run(rt, alloc)?;
+    has_many(rt, alloc, &ended)
+}
+
 #[test]
 fn many(rt: HostRuntime) -> Result<(), Fail> {
-    let ended = many_run(&rt, rt.alloc())?;
-    expect(&rt, "many", 0, tells_many(&ended));
-    let left = leaves_many(&rt, rt.alloc(), &ended.disk)?;
-    expect(&rt, "many", 64, left);
+    let holds = puts_many(&rt, rt.alloc())?;
+    expect(&rt, "many", 64, holds);
     Ok(())
 }

@@ -132,15 +132,25 @@ fn is_printed(ended: &Ended, text: &str) -> bool {
     ended.finished.status == 0 && ended.sink.as_slice() == text.as_bytes()
 }
 
+// Whether a run printed its case's text, and leaves what its case leaves.
+fn has_replied<R: Threads + Wait + Sync>(
+    rt: &R,
+    alloc: Global,
+    ended: &Ended,
+    case: &Case,
+) -> Result<bool, AllocError> {
+    let printed = is_printed(ended, case.text);
+    let left = leaves(rt, alloc, &ended.disk, ALL, &case.left)?;
+    Ok(printed && left)
+}
+
 fn replies<R: Threads + Wait + Sync>(
     rt: &R,
     alloc: Global,
     case: &Case,
 ) -> Result<bool, AllocError> {
     let ended = case_run(rt, alloc, case)?;
-    let printed = is_printed(&ended, case.text);
-    let left = leaves(rt, alloc, &ended.disk, ALL, &case.left)?;
-    Ok(printed && left)
+    has_replied(rt, alloc, &ended, case)
 }
 
 #[test]
