@@ -65,7 +65,7 @@ static ADVICE: [(&str, &str); 17] = [
     ),
     (
         "refused not-built\n",
-        "this is not built yet: of the commands `work`, and of scripts BEGIN READONLY",
+        "this is not built yet: of the commands `work`, and of scripts BEGIN READONLY and DELETE",
     ),
     (
         "refused not-prepared\n",

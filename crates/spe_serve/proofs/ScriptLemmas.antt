@@ -15,7 +15,7 @@ use Rattle.spe_script.specs.Script.{script_of}
 use Rattle.spe_clients.specs.Script.{MayRun}
 use Rattle.spe_serve.specs.declared.scripts.Unasked.{Unasked}
 use Rattle.spe_serve.specs.declared.scripts.Unasked.TheVariants.{NoScript, BadScript, NotBuilt, Failed, Memory}
-use Rattle.spe_serve.specs.Asked.{CountsScripts, IsUnfailed, are_carried_out, behind, bodies_from, is_carried_out, may_write, texts_from, unread_at}
+use Rattle.spe_serve.specs.Asked.{CountsScripts, IsUnfailed, are_carried_out, behind, bodies_from, is_carried_out, is_taken, may_write, texts_from, unread_at}
 
 behind_both : {X : Type 0} (found : List X) (x : X) (left : Result (List X) Unasked) → behind found (behind (x ∷ []) left) ≡ behind (found ++ x ∷ []) left
 behind_both found x (Ok xs) = ap Ok (sym (append_assoc found (x ∷ []) xs))
@@ -52,7 +52,7 @@ writing ReadWrite is = refl
 writing ReadOnly is = absurd cc
 
 may_run : (t : Tx) → is_carried_out t ≡ true → MayRun t
-may_run t is = record { writes = writing t.kind is }
+may_run t is = record { writes = writing t.kind (both_true (may_write t.kind) (list_all is_taken t.statements) is).0 }
 
 pub all_may_run : (body : List Tx) → list_all is_carried_out body ≡ true → All MayRun body
 all_may_run [] is = All-nil MayRun

@@ -1,9 +1,11 @@
 -- What the scripts of clients ask for: the transactions of each client, or the first reason why no client is served.
-use Rattle.std.specs.Prelude.{◌≡◌, ℕ, ◌+◌, Bool, true, false, List, [], ◌∷◌, ◌++◌, length, map, Option, Some, None, Result, Ok, Err, Vec, codes, if◌then◌else◌}
+use Rattle.std.specs.Prelude.{◌≡◌, ℕ, ◌+◌, Bool, true, false, ◌&&◌, List, [], ◌∷◌, ◌++◌, length, map, Option, Some, None, Result, Ok, Err, Vec, codes, if◌then◌else◌}
 use Rattle.std.specs.List.{list_all}
 use Rattle.std.specs.Fmt.{decimal}
 use Rattle.std.specs.Result.{result_map_both}
 use Rattle.std.specs.declared.alloc.Global.{Global}
+use Rattle.spe_model.specs.declared.statement.Statement.{Statement}
+use Rattle.spe_model.specs.declared.statement.Statement.TheVariants as statements
 use Rattle.spe_model.specs.declared.transaction.Tx.{Tx}
 use Rattle.spe_model.specs.declared.transaction.TxKind.{TxKind}
 use Rattle.spe_model.specs.declared.transaction.TxKind.TheVariants.{ReadWrite, ReadOnly}
@@ -46,9 +48,17 @@ abbrev pub may_write : TxKind → Bool
 may_write ReadWrite = true
 may_write ReadOnly = false
 
--- a transaction is carried out so far: it is none that only reads
+-- a statement of a script is carried out so far: all but a DELETE
+abbrev pub is_taken : Statement → Bool
+is_taken (statements.Select name all columns conds) = true
+is_taken (statements.Count name conds) = true
+is_taken (statements.Insert name listed columns values) = true
+is_taken (statements.Update name sets conds) = true
+is_taken (statements.Delete name conds) = false
+
+-- a transaction is carried out so far: it is none that only reads, and each of its statements is
 abbrev pub is_carried_out : Tx → Bool
-is_carried_out tx = may_write tx.kind
+is_carried_out tx = may_write tx.kind && list_all is_taken tx.statements
 
 -- so it is of all transactions of all clients
 abbrev pub are_carried_out : List (List Tx) → Bool

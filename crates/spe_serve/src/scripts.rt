@@ -3,11 +3,11 @@
 ghost use Rattle.std.specs.Prelude.{◌≡◌, ◌≤◌, ◌∷◌, [], true, IfOk, Ok, length};
 ghost use Rattle.std.specs.List.{list_all};
 ghost use Rattle.spe_script.specs.Script.{script_of};
-ghost use Rattle.spe_serve.specs.Asked.{CountsScripts, Gives, IfTexts, IsUnfailed, are_carried_out, asked_of, bodies_from, body_before, built_bodies, is_carried_out, may_write, texts_from, texts_seen, then_next, unread_at};
+ghost use Rattle.spe_serve.specs.Asked.{CountsScripts, Gives, IfTexts, IsUnfailed, are_carried_out, asked_of, bodies_from, body_before, built_bodies, is_carried_out, is_taken, may_write, texts_from, texts_seen, then_next, unread_at};
 
 use spe_clients::{Client, Clients};
 use spe_disk::{ScriptFault, Scripts};
-use spe_model::{Text, Tx, TxKind, Txs};
+use spe_model::{Statement, Text, Tx, TxKind, Txs};
 use spe_script::{ScriptError, ScriptKind, read_script};
 use std::alloc::{AllocError, AllocFailed, Global};
 
@@ -139,6 +139,19 @@ fn read_bodies(alloc: Global, texts: &[Vec<u8>]) -> Result<Vec<Txs>, Unasked>
     Ok(bodies)
 }
 
+// Whether a statement is carried out so far.
+fn is_taken(statement: &Statement) -> bool
+    ensures { result ≡ is_taken statement.now }
+{
+    match statement {
+        Statement::Select { .. }
+        | Statement::Count { .. }
+        | Statement::Insert { .. }
+        | Statement::Update { .. } => true,
+        Statement::Delete { .. } => false,
+    }
+}
+
 fn may_write(kind: TxKind) -> bool
     ensures { result ≡ may_write kind }
 {
@@ -148,11 +161,17 @@ fn may_write(kind: TxKind) -> bool
     }
 }
 
+fn are_taken(statements: &[Statement]) -> bool
+    ensures { result ≡ list_all is_taken statements.now }
+{
+    statements.iter().all(|statement| is_taken(statement))
+}
+
 // Whether a transaction is carried out so far.
 fn is_carried_out(tx: &Tx) -> bool
     ensures { result ≡ is_carried_out tx.now }
 {
-    may_write(tx.kind)
+    may_write(tx.kind) && are_taken(tx.statements.as_slice())
 }
 
 fn is_all_carried_out(body: &[Tx]) -> bool
@@ -173,7 +192,7 @@ fn are_carried_out(bodies: &[Txs]) -> bool
 /// The transactions of each client, by the names of their scripts.
 ///
 /// All scripts are read, then all are parsed, so that what is wrong with them is found before a database is
-/// looked at. A transaction that only reads is not built yet.
+/// looked at. A transaction that only reads, and a DELETE, are not built yet.
 pub fn read_clients<C: Scripts>(
     alloc: Global,
     scripts: &mut C,

@@ -19,7 +19,7 @@ const GOOD: Script = ("s1", b"INSERT INTO a VALUES (1, 10);");
 
 // Words and scripts that are refused whatever the database is, and what is printed. That one is missing comes
 // first, then what is wrong with one, the first before the second, then what is not built.
-static SCRIPTS: [(&[&str], &[Script], &str); 16] = [
+static SCRIPTS: [(&[&str], &[Script], &str); 18] = [
     (ONE, &[], "refused no-script 1\n"),
     (TWO, &[GOOD], "refused no-script 2\n"),
     (TWO, &[], "refused no-script 1\n"),
@@ -69,6 +69,12 @@ static SCRIPTS: [(&[&str], &[Script], &str); 16] = [
         &[("s1", b"BEGIN READONLY; COMMIT;")],
         "refused not-built\n",
     ),
+    (ONE, &[("s1", b"DELETE FROM a;")], "refused not-built\n"),
+    (
+        ONE,
+        &[("s1", b"BEGIN; DELETE FROM a WHERE id = 1; ROLLBACK;")],
+        "refused not-built\n",
+    ),
     (
         TWO,
         &[GOOD, ("s2", b"SELECT * FROM a; BEGIN READONLY;")],
@@ -76,14 +82,10 @@ static SCRIPTS: [(&[&str], &[Script], &str); 16] = [
     ),
     (
         TWO,
-        &[("s1", b"BEGIN READONLY; COMMIT;"), ("s2", b"COMMIT")],
+        &[("s1", b"DELETE FROM a;"), ("s2", b"COMMIT")],
         "refused script 2 line 1 not-open\n",
     ),
-    (
-        TWO,
-        &[("s1", b"BEGIN READONLY; COMMIT;")],
-        "refused no-script 2\n",
-    ),
+    (TWO, &[("s1", b"DELETE FROM a;")], "refused no-script 2\n"),
 ];
 
 fn sound_disk(alloc: Global) -> Result<MemDisk, AllocError>

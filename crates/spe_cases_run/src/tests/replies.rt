@@ -15,7 +15,7 @@ struct Case {
     left: Left,
 }
 
-static CASES: [Case; 7] = [
+static CASES: [Case; 6] = [
     // The greatest rowid is in use, and refused statements change nothing.
     Case {
         name: "refused statements",
@@ -84,21 +84,6 @@ static CASES: [Case; 7] = [
         left: (
             "ok pages 6 tables 2 rows 2 free 2\n",
             "1|1|x'0aff'\n2|2|NULL\nrows 2\n",
-            "rows 0\n",
-        ),
-    },
-    // Rows are removed; those that a transaction removed which is rolled back stay.
-    Case {
-        name: "deleted rows",
-        words: &["run", "b.db", "s1"],
-        scripts: &[(
-            "s1",
-            b"INSERT INTO a VALUES (1, 10); INSERT INTO a VALUES (2, 20); INSERT INTO a VALUES (3, 30);\nDELETE FROM a WHERE id BETWEEN 2 AND 9;\nBEGIN; DELETE FROM a; SELECT count(*) FROM a; ROLLBACK;\nDELETE FROM b;\nBEGIN; DELETE FROM a WHERE id = 7; DELETE FROM a WHERE v = 1; COMMIT;",
-        )],
-        text: "client 1\ntx 1 commit 1\n  inserted 1\ntx 2 commit 2\n  inserted 2\ntx 3 commit 3\n  inserted 3\ntx 4 commit 4\n  changed 2\ntx 5 rollback 4\n  changed 1\n  count 0\ntx 6 commit 5\n  changed 0\ntx 7 commit 6\n  changed 0\n  error NotByRowid\n",
-        left: (
-            "ok pages 6 tables 2 rows 1 free 2\n",
-            "1|1|10\nrows 1\n",
             "rows 0\n",
         ),
     },
