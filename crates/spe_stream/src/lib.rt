@@ -4,3 +4,7 @@
 
 mod shown;
 mod stream;
+mod table;
+
+pub use shown::ShownRows;
+pub use table::{Streamed, put_table};

@@ -11,7 +11,7 @@ use std::marker::Model;
 /// do nothing when they run.
 #[derive(Drop)]
 pub struct ShownRows {
-    pub(crate) ghost rows: { List Row },
+    pub ghost rows: { List Row },
 }
 
 impl Model for ShownRows {

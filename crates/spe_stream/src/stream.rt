@@ -1,6 +1,6 @@
 //! The rows of a table that are printed as they are read.
 
-ghost use Rattle.std.specs.Prelude.{◌≡◌, ◌+◌, true, false, None};
+ghost use Rattle.std.specs.Prelude.{◌≡◌, ◌+◌, [], true, false, None, Some};
 
 use crate::shown::{ShownRows, StoredRow};
 use spe_disk::Sink;
@@ -17,6 +17,25 @@ pub(crate) struct RowPrinter<'t> {
     pub(crate) shown: ShownRows,
     /// The leaf of a row that is none of the table.
     pub(crate) flaw: Option<u32>,
+}
+
+impl<'t> RowPrinter<'t> {
+    /// A printer of the rows of a table, which has printed none.
+    pub(crate) fn new(table: &'t TableDef) -> RowPrinter<'t>
+        ensures table { result.table.now ≡ table.now }
+        ensures printer { result.printer ≡ Some [] }
+        ensures count { result.count ≡ 0 }
+        ensures shown { result.shown.rows ≡ [] }
+        ensures flaw { result.flaw ≡ None }
+    {
+        RowPrinter {
+            table,
+            printer: Printer::new(),
+            count: 0,
+            shown: ShownRows::none(),
+            flaw: None,
+        }
+    }
 }
 
 impl<W: Sink> RowTaker<W> for RowPrinter<'_> {
