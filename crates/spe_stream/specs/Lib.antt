@@ -1,0 +1,4 @@
+pub mod Row
+pub mod Shown
+pub mod ShownLaws
+pub mod Table
