@@ -5,6 +5,8 @@
 //! yet. Each step says of pages in use elsewhere that they stay, whatever it answers.
 #![tactic(auto)]
 
+mod even;
 mod thin;
 
+pub use even::lay_evenly;
 pub use thin::drop_only_leaf;
