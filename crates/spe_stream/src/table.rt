@@ -5,7 +5,7 @@ ghost use Rattle.spe_disk.specs.Sink.{Appends, AppendsFront, CountsFault};
 ghost use Rattle.spe_render.specs.Passes.{Passes};
 ghost use Rattle.spe_search.specs.Inside.{MissesTree};
 ghost use Rattle.spe_space.specs.Calls.{Reads, RefusesTree};
-ghost use Rattle.spe_stream.specs.Table.{NamesRows, PutsTable, end_of, last_line, stop_of, text_put};
+ghost use Rattle.spe_stream.specs.Table.{NamesRows, PutsShown, PutsStored, PutsTable, end_of, last_line, stop_of, text_put};
 
 use crate::shown::ShownRows;
 use crate::stream::RowPrinter;
@@ -77,6 +77,8 @@ pub fn put_table<S: Pages, W: Sink>(
 ) -> Streamed
     requires { S.Pages.refusal space.old ≡ None }
     ensures rows { PutsTable S.Pages space.old space.new table.now root result.shown.rows result.walk result.sink }
+    ensures stored { PutsStored S.Pages space.old space.new table.now root result.shown.rows result.walk result.sink }
+    ensures shown { PutsShown S.Pages space.old space.new table.now root result.shown.rows }
     ensures text { OnOk result.sink (Appends (W.taken out.old) (W.taken out.new) (text_put result.shown.rows result.walk)) }
     ensures some { OnErr result.sink (AppendsFront (W.taken out.old) (W.taken out.new) (text_put result.shown.rows result.walk)) }
     ensures counts { CountsFault (W.faults out.old) (W.faults out.new) result.sink }
