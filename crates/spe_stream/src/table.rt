@@ -66,8 +66,9 @@ fn put_last<W: Sink>(printer: &mut Printer, out: &mut W, count: u64, walk: &Resu
 ///
 /// Where the walk meets a fault, the sink has the lines of the rows before it, and no line with a
 /// number. Corrupt names the leaf of a row whose record is damaged or has more fields than the table
-/// has columns, or is as of `for_each_row`; PageOut is as there. Where the sink fails, it has taken
-/// some first bytes of the text, or none, and failed once: nothing is put after that, and the walk ends.
+/// has columns, or is as of `for_each_row`; PageOut is as there. Memory comes also where one row more
+/// stands behind 2^64 - 1 rows. Where the sink fails, it has taken some first bytes of the text, or none,
+/// and failed once: nothing is put after that, and the walk ends.
 pub fn put_table<S: Pages, W: Sink>(
     alloc: Global,
     space: &mut S,
