@@ -1,9 +1,9 @@
 -- A table that is put while its tree is walked.
-use Rattle.std.proofs.Common.{◌≡◌, inl, inr, ℕ, ℤ, ◌≤◌, Bool, true, false, nat_le, List, [], ◌∷◌, ◌++◌, length, map, codes, decimal, Option, Some, None, Result, Ok, Err, refl, sym, ap, subst, ◌∙◌, append_assoc, append-nil, arith}
+use Rattle.std.proofs.Common.{◌≡◌, inl, inr, ℕ, zero, suc, ℤ, ◌≤◌, Bool, true, false, nat_le, List, [], ◌∷◌, ◌++◌, length, map, codes, decimal, Option, Some, None, Result, Ok, Err, refl, sym, ap, subst, ◌∙◌, append_assoc, append-nil, arith}
 use Rattle.std.specs.Prelude.{OnOk, OnErr}
 use Rattle.std.specs.List.{Contains}
 use Rattle.std.proofs.lemmas.List.{map-append}
-use Rattle.std.proofs.lemmas.List.Elements.{Contains-append_right}
+use Rattle.std.proofs.lemmas.List.Elements.{Contains-append_left, Contains-append_right}
 use Rattle.spe_model.specs.declared.table.TableDef.{TableDef}
 use Rattle.spe_model.specs.Database.{Row}
 use Rattle.spe_model.specs.Paging.{Paging}
@@ -22,7 +22,7 @@ use Rattle.spe_render.specs.Values.{line, rows_text, table_text}
 use Rattle.spe_render.proofs.PassesLemmas.{printed, then, whole_ok, whole_err}
 use Rattle.spe_stream.specs.Row.{row_of}
 use Rattle.spe_stream.specs.Shown.{Puts, Stops, row_at}
-use Rattle.spe_stream.specs.Table.{ArePut, HasBadRecord, HasRowsCause, end_of, last_line, text_put}
+use Rattle.spe_stream.specs.Table.{ArePut, HasBadRecord, HasRowsCause, IsShownRow, SayBefore, SayPut, end_of, last_line, text_put}
 
 -- ---- from a printer that is new
 
@@ -176,3 +176,83 @@ walk_puts table stored all (Ok false) (Some page) g h i p q sink {shown = shown}
 walk_puts table stored all (Err (Space f)) flaw g h i p q sink {shown = shown} {pairs = pairs} puts taken are counts ends =
     first_ones table shown all (map pair_seen puts.rest ++ taken.0) (parted table pairs puts.good puts.rest puts.rows shown all stored taken.0 puts.parts puts.read puts.shows taken.1 are)
 walk_puts table stored all (Err (Corrupt page)) flaw g h i p q sink puts taken are counts ends = absurd taken
+
+-- ---- the stored rows, whatever they are
+
+seen_read : (table : TableDef) (good : List Pair) (rows : List Row) → map (row_at table) good ≡ map Some rows → map (row_of table) (map pair_seen good) ≡ map Some rows
+seen_read table [] rows read = read
+seen_read table (x ∷ xs) [] read = absurd cc
+seen_read table (x ∷ xs) (r ∷ rs) read =
+    let first : row_at table x ≡ Some r = cc in
+    let later : map (row_at table) xs ≡ map Some rs = cc in
+    ap (λ (o : Option Row). o ∷ map (row_of table) (map pair_seen xs)) first ∙ ap (λ (l : List (Option Row)). Some r ∷ l) (seen_read table xs rs later)
+
+said : (table : TableDef) (pairs good rest : List Pair) (rows shown : List Row) (stored more : List (ℤ × List ℕ)) → pairs ≡ good ++ rest → map (row_at table) good ≡ map Some rows
+    → shown ≡ rows → stored ≡ map pair_seen pairs ++ more → SayBefore table stored (map pair_seen rest ++ more) shown
+said table pairs good rest rows shown stored more parts read shows taken = (
+  map pair_seen good,
+  taken ∙ ap (λ (l : List Pair). map pair_seen l ++ more) parts ∙ ap (λ (l : List (ℤ × List ℕ)). l ++ more) (map-append pair_seen good rest)
+      ∙ append_assoc (map pair_seen good) (map pair_seen rest) more,
+  seen_read table good rows read ∙ ap (λ (l : List Row). map Some l) (sym shows),
+)
+
+say_whole : (table : TableDef) (stored : List (ℤ × List ℕ)) (shown : List Row) (sink : Result (Unit {0}) Failed) → map (row_of table) stored ≡ map Some shown → SayPut table stored shown (Ok tt) sink
+say_whole table stored shown (Ok done) is = is
+say_whole table stored shown (Err failed) is = ([], (stored, sym (append-nil stored), is))
+
+say_failed : (table : TableDef) (stored later : List (ℤ × List ℕ)) (shown : List Row) (g h i : ℕ) (q : Option (List ℕ)) (sink : Result (Unit {0}) Failed) → SayBefore table stored later shown
+    → CountsOnce g h None q → CountsAtEnd h i q sink → SayPut table stored shown (Ok tt) sink
+say_failed table stored later shown g h i q (Ok done) say counts ends = absurd (no_end g h i q done counts ends)
+say_failed table stored later shown g h i q (Err failed) say counts ends = (later, say)
+
+say_bad : (table : TableDef) (page : ℕ) (stored more : List (ℤ × List ℕ)) (shown : List Row) (rest : List Pair) (sink : Result (Unit {0}) Failed) → Stops table rest None (Some page) false
+    → SayBefore table stored (map pair_seen rest ++ more) shown → SayPut table stored shown (Err (Corrupt page)) sink
+say_bad table page stored more shown rest sink (inl none) say = absurd cc
+say_bad table page stored more shown rest sink (inr (bad, only, is_bad, leaf)) say =
+    (pair_seen bad, is_bad, more, subst (λ (l : List Pair). SayBefore table stored (map pair_seen l ++ more) shown) only say)
+
+pub walk_says : (table : TableDef) (stored : List (ℤ × List ℕ)) (result : Result Bool TreeFault) (flaw : Option ℕ) (g h i : ℕ) (p q : Option (List ℕ)) (sink : Result (Unit {0}) Failed)
+    {t u : Option (List ℕ)} {f count : ℕ} {shown : List Row} {pairs : List Pair}
+    → Puts table t u f g (Some []) p 0 count [] shown None flaw pairs (wants_more result) → AreTaken (map pair_seen pairs) stored result
+    → CountsOnce g h p q → CountsAtEnd h i q sink → SayPut table stored shown (end_of result flaw p) sink
+walk_says table stored (Ok true) flaw g h i p q sink {shown = shown} {pairs = pairs} puts taken counts ends =
+    let whole : pairs ≡ puts.good = puts.parts ∙ ap (λ (l : List Pair). puts.good ++ l) puts.stops.0 ∙ append-nil puts.good in
+    let seen : stored ≡ map pair_seen puts.good = sym taken ∙ ap (λ (l : List Pair). map pair_seen l) whole in
+    say_whole table stored shown sink
+    (ap (λ (l : List (ℤ × List ℕ)). map (row_of table) l) seen ∙ seen_read table puts.good puts.rows puts.read ∙ ap (λ (l : List Row). map Some l) (sym puts.shows))
+walk_says table stored (Ok false) None g h i None q sink {shown = shown} {pairs = pairs} puts taken counts ends =
+    say_failed table stored (map pair_seen puts.rest ++ taken.0) shown g h i q sink
+    (said table pairs puts.good puts.rest puts.rows shown stored taken.0 puts.parts puts.read puts.shows taken.1) counts ends
+walk_says table stored (Ok false) None g h i (Some waiting) q sink {shown = shown} {pairs = pairs} puts taken counts ends =
+    (map pair_seen puts.rest ++ taken.0, said table pairs puts.good puts.rest puts.rows shown stored taken.0 puts.parts puts.read puts.shows taken.1)
+walk_says table stored (Ok false) (Some page) g h i p q sink {shown = shown} {pairs = pairs} puts taken counts ends =
+    say_bad table page stored taken.0 shown puts.rest sink puts.stops
+    (said table pairs puts.good puts.rest puts.rows shown stored taken.0 puts.parts puts.read puts.shows taken.1)
+walk_says table stored (Err (Space f)) flaw g h i p q sink {shown = shown} {pairs = pairs} puts taken counts ends =
+    (map pair_seen puts.rest ++ taken.0, said table pairs puts.good puts.rest puts.rows shown stored taken.0 puts.parts puts.read puts.shows taken.1)
+walk_says table stored (Err (Corrupt page)) flaw g h i p q sink puts taken counts ends = absurd taken
+
+-- ---- each row is shown by its leaf
+
+all_shown : (usable : ℕ) (pages : Paging) (table : TableDef) (root : ℕ) (good : List Pair) (rows : List Row) → map (row_at table) good ≡ map Some rows
+    → Each (IsRead usable pages 20 root) good → (row : Row) → Contains rows row → IsShownRow usable pages table root row
+all_shown usable pages table root [] [] read each row (k, less, is) = absurd (omega (arith, less))
+all_shown usable pages table root [] (r ∷ rs) read each row has = absurd cc
+all_shown usable pages table root (x ∷ xs) [] read each row has = absurd cc
+all_shown usable pages table root (x ∷ xs) (r ∷ rs) read each row (zero, less, is) =
+    let first : row_at table x ≡ Some r = cc in
+    record { from = x; read = each x (zero, omega arith, refl); is = first ∙ ap Some is }
+all_shown usable pages table root (x ∷ xs) (r ∷ rs) read each row (suc k, less, is) =
+    let later : map (row_at table) xs ≡ map Some rs = cc in
+    all_shown usable pages table root xs rs later (λ pair has. each pair (further pair has)) row (k, omega (arith, less), is)
+  where
+    further : (pair : Pair) → Contains xs pair → Contains (x ∷ xs) pair
+    further pair (k, less, is) = (suc k, omega (arith, less), is)
+
+pub walk_shows : (usable : ℕ) (pages : Paging) (table : TableDef) (root : ℕ) {t u : Option (List ℕ)} {f g : ℕ} {p : Option (List ℕ)} {count : ℕ} {shown : List Row} {flaw : Option ℕ} {pairs : List Pair} {more : Bool}
+    → Puts table t u f g (Some []) p 0 count [] shown None flaw pairs more → Each (IsRead usable pages 20 root) pairs
+    → (row : Row) → Contains shown row → IsShownRow usable pages table root row
+walk_shows usable pages table root {pairs = pairs} puts each row has =
+    all_shown usable pages table root puts.good puts.rows puts.read
+    (λ pair among. each pair (subst (λ (l : List Pair). Contains l pair) (sym puts.parts) (Contains-append_left puts.good puts.rest pair among))) row
+    (subst (λ (l : List Row). Contains l row) puts.shows has)

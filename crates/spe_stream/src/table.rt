@@ -5,7 +5,7 @@ ghost use Rattle.spe_disk.specs.Sink.{Appends, AppendsFront, CountsFault};
 ghost use Rattle.spe_render.specs.Passes.{Passes};
 ghost use Rattle.spe_search.specs.Inside.{MissesTree};
 ghost use Rattle.spe_space.specs.Calls.{Reads, RefusesTree};
-ghost use Rattle.spe_stream.specs.Table.{NamesRows, PutsTable, end_of, last_line, stop_of, text_put};
+ghost use Rattle.spe_stream.specs.Table.{NamesRows, PutsShown, PutsStored, PutsTable, end_of, last_line, stop_of, text_put};
 
 use crate::shown::ShownRows;
 use crate::stream::RowPrinter;
@@ -66,8 +66,9 @@ fn put_last<W: Sink>(printer: &mut Printer, out: &mut W, count: u64, walk: &Resu
 ///
 /// Where the walk meets a fault, the sink has the lines of the rows before it, and no line with a
 /// number. Corrupt names the leaf of a row whose record is damaged or has more fields than the table
-/// has columns, or is as of `for_each_row`; PageOut is as there. Where the sink fails, it has taken
-/// some first bytes of the text, or none, and failed once: nothing is put after that, and the walk ends.
+/// has columns, or is as of `for_each_row`; PageOut is as there. Memory comes also where one row more
+/// stands behind 2^64 - 1 rows. Where the sink fails, it has taken some first bytes of the text, or none,
+/// and failed once: nothing is put after that, and the walk ends.
 pub fn put_table<S: Pages, W: Sink>(
     alloc: Global,
     space: &mut S,
@@ -77,6 +78,8 @@ pub fn put_table<S: Pages, W: Sink>(
 ) -> Streamed
     requires { S.Pages.refusal space.old ≡ None }
     ensures rows { PutsTable S.Pages space.old space.new table.now root result.shown.rows result.walk result.sink }
+    ensures stored { PutsStored S.Pages space.old space.new table.now root result.shown.rows result.walk result.sink }
+    ensures shown { PutsShown S.Pages space.old space.new table.now root result.shown.rows }
     ensures text { OnOk result.sink (Appends (W.taken out.old) (W.taken out.new) (text_put result.shown.rows result.walk)) }
     ensures some { OnErr result.sink (AppendsFront (W.taken out.old) (W.taken out.new) (text_put result.shown.rows result.walk)) }
     ensures counts { CountsFault (W.faults out.old) (W.faults out.new) result.sink }
