@@ -1,5 +1,5 @@
 -- The children of two pages, put on one of them or on both.
-use Rattle.std.proofs.Common.{◌≡◌, ◌≢◌, ℕ, ℤ, ◌+◌, ◌≤◌, ◌∙◌, List, [], ◌∷◌, length, refl, sym, ap, subst, arith, Ok}
+use Rattle.std.proofs.Common.{◌≡◌, ◌≢◌, ℕ, ℤ, ◌≤◌, ◌∙◌, List, [], ◌∷◌, refl, sym, ap, subst, arith, Ok}
 use Rattle.spe_model.specs.declared.page.Cell.{Cell}
 use Rattle.spe_model.specs.declared.page.Kind.TheVariants.{TableInterior}
 use Rattle.spe_model.specs.declared.page.PageCells.{PageCells}

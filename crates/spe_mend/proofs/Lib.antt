@@ -1,2 +1,3 @@
 pub mod EvenLemmas
+pub mod PairLemmas
 pub mod ThinLemmas

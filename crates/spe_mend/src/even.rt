@@ -63,7 +63,7 @@ fn lay_both<S: Pages>(
 ///
 /// Both pages are held, and neither is page 1. The children may take 30 bytes more than a page has. `buf`
 /// is a copy of the first page, and is written over. It fails as `get`, `put` and `free` do.
-pub fn lay_evenly<S: PageSpace>(
+pub(crate) fn lay_evenly<S: PageSpace>(
     alloc: Global,
     space: &mut S,
     first: u32,
