@@ -1,4 +1,4 @@
-//! Tests of what all transactions share of a database, over pages in memory.
+//! Tests of what all transactions share of a database, and of the pages of a file that are only read.
 #![tactic(auto)]
 
 #[cfg(test)]

@@ -1,2 +1,3 @@
+mod read_only;
 mod shared;
 mod space;

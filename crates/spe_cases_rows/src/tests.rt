@@ -1,7 +1,6 @@
 mod files;
 mod journals;
 mod outside;
-mod read_only;
 mod real;
 mod rows;
 mod run;

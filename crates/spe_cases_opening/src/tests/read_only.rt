@@ -1,14 +1,12 @@
 //! The pages of a file, as a space that can only be read.
 
-ghost use Rattle.std.specs.Prelude.{◌≡◌, true, false, Some};
+ghost use Rattle.std.specs.Prelude.{◌≡◌, true, false, IfOk, Some};
 ghost use Rattle.spe_disk.specs.Memory.{history_of, is_attached, op_fault_count, read_fault_count};
 ghost use Rattle.spe_model.specs.Settled.{IsWithinLimits};
 
-use super::files::two;
-use super::run::{disk_of, expect_row};
-use spe_check::{DiskSpace, Origin};
-use spe_disk::{Disk, MemDisk};
-use spe_model::Recovered;
+use spe_disk::{Disk, Faults, FileNo, MemDisk};
+use spe_model::{Numbers, Recovered};
+use spe_room::{DiskSpace, Origin};
 use spe_space::{PageSpace, SpaceFault};
 use std::alloc::{AllocError, Global};
 use std::marker::Brand;
@@ -99,6 +97,10 @@ fn answer_to<S: PageSpace>(alloc: Global, space: &mut S, call: Call) -> Result<A
     }
 }
 
+fn expect_row(rt: &impl Abort, row: usize, holds: bool) {
+    assert!(rt; holds, "call {row}");
+}
+
 fn expect_answers<R: Abort, S: PageSpace>(
     rt: &R,
     alloc: Global,
@@ -106,7 +108,7 @@ fn expect_answers<R: Abort, S: PageSpace>(
 ) -> Result<(), AllocError> {
     for (row, (call, expected)) in CALLS.iter().enumerate() {
         let found = answer_to(alloc, space, *call)?;
-        expect_row(rt, "call", row as u64, found == *expected);
+        expect_row(rt, row, found == *expected);
     }
     Ok(())
 }
@@ -144,10 +146,40 @@ fn expect_over<R: Abort>(rt: &R, alloc: Global, mut disk: MemDisk) -> Result<(),
     expect_of::<R, Brand>(rt, alloc, disk, &found)
 }
 
+// Six pages of zeros, but for the first bytes of two.
+fn file_of(alloc: Global) -> Result<Vec<u8>, AllocError> {
+    let mut file = vec![in alloc; 0u8; 3072]?;
+    for (at, byte) in [(0usize, b'S'), (512, 13)] {
+        if let Some(place) = file.get_mut(at) {
+            *place = byte;
+        }
+    }
+    Ok(file)
+}
+
+fn bare_disk(alloc: Global) -> Result<MemDisk, AllocError>
+    ensures { IfOk result (λ d. is_attached d ≡ false) }
+{
+    let faults = Faults {
+        reads: Numbers::new(Vec::new(alloc)),
+        ops: Numbers::new(Vec::new(alloc)),
+        made: false,
+    };
+    MemDisk::new(alloc, 1 << 20, 256, faults)
+}
+
+fn disk_of(alloc: Global) -> Result<MemDisk, AllocError>
+    ensures { IfOk result (λ d. is_attached d ≡ false) }
+{
+    let file = file_of(alloc)?;
+    let mut disk = bare_disk(alloc)?;
+    let _ = disk.load(FileNo::Database, file.as_slice());
+    Ok(disk)
+}
+
 #[test]
 fn read_only(rt: HostRuntime) -> Result<(), Fail> {
-    let file = two(rt.alloc())?;
-    let disk = disk_of(rt.alloc(), Some(&file), &[])?;
+    let disk = disk_of(rt.alloc())?;
     expect_over(&rt, rt.alloc(), disk)?;
     Ok(())
 }
