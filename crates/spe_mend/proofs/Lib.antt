@@ -1,3 +1,4 @@
 pub mod EvenLemmas
 pub mod PairLemmas
+pub mod StretchLemmas
 pub mod ThinLemmas
