@@ -1,4 +1,5 @@
 pub mod EvenLemmas
+pub mod MendedLemmas
 pub mod PairLemmas
 pub mod StretchLemmas
 pub mod ThinLemmas

@@ -1,3 +1,4 @@
 pub mod Thin
 pub mod Pair
 pub mod Stretch
+pub mod Mended

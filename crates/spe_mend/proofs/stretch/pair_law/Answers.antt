@@ -1,5 +1,12 @@
+use Rattle.spe_mend.proofs.MendedLemmas.{pair_becomes, pair_of_run}
 use Rattle.spe_mend.proofs.StretchLemmas.{pair_stands}
 use Rattle.spe_mend.proofs.stretch.pair_law.Goals as goal
 
-pub returns : goal.returns
-returns c = pair_stands
+pub returns-clause-stands : goal.returns-clause-stands
+returns-clause-stands c = pair_stands
+
+pub returns-clause-pair : goal.returns-clause-pair
+returns-clause-pair c = pair_of_run c.stretch_law.ensures.stretch
+
+pub returns-clause-becomes : goal.returns-clause-becomes
+returns-clause-becomes c = pair_becomes c.stretch_law.ensures.becomes
