@@ -1,4 +1,5 @@
 pub mod EvenLemmas
+pub mod FilledLemmas
 pub mod MendedLemmas
 pub mod PairLemmas
 pub mod StretchLemmas

@@ -1,10 +1,9 @@
 -- Two children of a page that became others.
-use Rattle.std.proofs.Common.{◌≡◌, ℕ, ◌++◌, ◌∙◌, List, ℤ, sym, ap, subst}
-use Rattle.spe_model.specs.Paging.{Paging}
+use Rattle.std.proofs.Common.{ℕ, ◌++◌, ◌∙◌, List, ℤ, sym, ap, subst}
 use Rattle.spe_frame.specs.Times.{AreSame}
-use Rattle.spe_cut.specs.Run.{IsRun, Place, Run, pages_beside, pages_in, rows_in, with_run}
+use Rattle.spe_cut.specs.Run.{IsRun, Run, pages_beside, pages_in, rows_in}
 use Rattle.spe_cut.specs.Stretch.{IsStretch, RunChanges, StretchBecomesRun, StretchOfRun}
-use Rattle.spe_mend.specs.Mended.{ChildrenStay, IsPairOf, PairBecomesRun, PairChanges, PairOfRun, pair_of}
+use Rattle.spe_mend.specs.Mended.{PairBecomesRun, PairOfRun, pair_of}
 use Rattle.spe_mend.specs.Stretch.{pair_place}
 use Rattle.spe_mend.proofs.StretchLemmas.{pair_stands}
 

@@ -6,10 +6,11 @@ ghost use Rattle.spe_cut.specs.Run.{with_run};
 ghost use Rattle.spe_insert.specs.Place.{place_for};
 ghost use Rattle.spe_insert.specs.Run.{run_of};
 ghost use Rattle.spe_delete.specs.Join.{two_pages};
+ghost use Rattle.spe_mend.specs.Filled.{FilledBeside};
 ghost use Rattle.spe_mend.specs.Mended.{PairBecomesRun, PairOfRun};
 ghost use Rattle.spe_mend.specs.Stretch.{PairStands, first_two, pair_place};
 
-use spe_cut::stretch_law;
+use spe_cut::{root_law, stretch_law};
 use spe_insert::{Run, place_of, with_children};
 use spe_model::{Cell, Cells};
 use std::alloc::AllocError;
@@ -71,11 +72,14 @@ pub fn with_pair(children: Run, place: usize, run: Run) -> Result<Run, AllocErro
 }
 
 /// Two children stand at their place among all children, and are a run there. Where they become another
-/// run with the same rows, so do all children with it.
+/// run with the same rows, so do all children with it; and each interior page below has a cell where each
+/// of that run and each of the others has.
 pub fn pair_law()
     ensures stands { PairStands }
     ensures pair { PairOfRun }
     ensures becomes { PairBecomesRun }
+    ensures filled { FilledBeside }
 {
+    root_law();
     stretch_law();
 }

@@ -1,3 +1,4 @@
+use Rattle.spe_mend.proofs.FilledLemmas.{filled_beside}
 use Rattle.spe_mend.proofs.MendedLemmas.{pair_becomes, pair_of_run}
 use Rattle.spe_mend.proofs.StretchLemmas.{pair_stands}
 use Rattle.spe_mend.proofs.stretch.pair_law.Goals as goal
@@ -10,3 +11,6 @@ returns-clause-pair c = pair_of_run c.stretch_law.ensures.stretch
 
 pub returns-clause-becomes : goal.returns-clause-becomes
 returns-clause-becomes c = pair_becomes c.stretch_law.ensures.becomes
+
+pub returns-clause-filled : goal.returns-clause-filled
+returns-clause-filled c = filled_beside c.root_law.ensures.stays
