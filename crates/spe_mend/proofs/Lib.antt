@@ -1,3 +1,4 @@
+pub mod ChildLemmas
 pub mod EvenLemmas
 pub mod FilledLemmas
 pub mod MendedLemmas

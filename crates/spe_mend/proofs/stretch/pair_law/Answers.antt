@@ -1,3 +1,4 @@
+use Rattle.spe_mend.proofs.ChildLemmas.{pair_has_child}
 use Rattle.spe_mend.proofs.FilledLemmas.{filled_beside}
 use Rattle.spe_mend.proofs.MendedLemmas.{pair_becomes, pair_of_run}
 use Rattle.spe_mend.proofs.StretchLemmas.{pair_stands}
@@ -14,3 +15,6 @@ returns-clause-becomes c = pair_becomes c.stretch_law.ensures.becomes
 
 pub returns-clause-filled : goal.returns-clause-filled
 returns-clause-filled c = filled_beside c.root_law.ensures.stays
+
+pub returns-clause-child : goal.returns-clause-child
+returns-clause-child c = pair_has_child
