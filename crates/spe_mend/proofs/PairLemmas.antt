@@ -63,7 +63,7 @@ thin_as_read usable pages first second lower higher one two thin =
     either_is (node_cells usable pages first) (node_cells usable pages second) lower.cells higher.cells (ap (λ (r : Reading). cells_in r) one) (ap (λ (r : Reading). cells_in r) two) thin
 
 -- what holds of each child of both holds of all
-below_both : (T : ℕ → Type 0) (before : List Cell) (c : Cell) (after : List Cell) (right : ℕ) → AreBelow T before c.left → AreBelow T after right → AreBelow T (before ++ (c ∷ after)) right
+pub below_both : (T : ℕ → Type 0) (before : List Cell) (c : Cell) (after : List Cell) (right : ℕ) → AreBelow T before c.left → AreBelow T after right → AreBelow T (before ++ (c ∷ after)) right
 below_both T [] c after right one rest = (one, rest)
 below_both T (d ∷ ds) c after right all rest = (all.0, below_both T ds c after right all.1 rest)
 

@@ -1,3 +1,5 @@
 pub mod Thin
 pub mod Pair
 pub mod Stretch
+pub mod Mended
+pub mod Filled

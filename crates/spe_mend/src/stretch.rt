@@ -6,8 +6,11 @@ ghost use Rattle.spe_cut.specs.Run.{with_run};
 ghost use Rattle.spe_insert.specs.Place.{place_for};
 ghost use Rattle.spe_insert.specs.Run.{run_of};
 ghost use Rattle.spe_delete.specs.Join.{two_pages};
-ghost use Rattle.spe_mend.specs.Stretch.{PairStands, first_two, pair_place};
+ghost use Rattle.spe_mend.specs.Filled.{FilledBeside};
+ghost use Rattle.spe_mend.specs.Mended.{PairBecomesRun, PairOfRun};
+ghost use Rattle.spe_mend.specs.Stretch.{PairHasChild, PairStands, first_two, pair_place};
 
+use spe_cut::{root_law, stretch_law};
 use spe_insert::{Run, place_of, with_children};
 use spe_model::{Cell, Cells};
 use std::alloc::AllocError;
@@ -68,7 +71,17 @@ pub fn with_pair(children: Run, place: usize, run: Run) -> Result<Run, AllocErro
     with_children(others, place, run)
 }
 
-/// Two children stand at their place, among all children.
+/// Two children stand at their place among all children, and are a run there. Where they become another
+/// run with the same rows, so do all children with it; and each interior page below has a cell where each
+/// of that run and each of the others has. The child in which a rowid belongs is one of two that `pair_at`
+/// finds.
 pub fn pair_law()
-    ensures { PairStands }
-{}
+    ensures stands { PairStands }
+    ensures pair { PairOfRun }
+    ensures becomes { PairBecomesRun }
+    ensures filled { FilledBeside }
+    ensures child { PairHasChild }
+{
+    root_law();
+    stretch_law();
+}
