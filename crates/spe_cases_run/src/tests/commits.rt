@@ -85,10 +85,17 @@ fn expect_all_stops<R: Threads + Wait + Sync + Abort>(
     Ok(())
 }
 
+fn expect_stopped<R: Threads + Wait + Sync + Abort>(
+    rt: &R,
+    alloc: Global,
+) -> Result<(), AllocError> {
+    let ended = both_run(rt, alloc)?;
+    expect_all_stops(rt, alloc, &ended.disk)
+}
+
 #[test]
 fn stopped(rt: HostRuntime) -> Result<(), Fail> {
-    let ended = both_run(&rt, rt.alloc())?;
-    expect_all_stops(&rt, rt.alloc(), &ended.disk)?;
+    expect_stopped(&rt, rt.alloc())?;
     Ok(())
 }
 
@@ -124,9 +131,13 @@ fn expect_first<R: Threads + Wait + Sync + Abort>(
     Ok(())
 }
 
+fn expect_one<R: Threads + Wait + Sync + Abort>(rt: &R, alloc: Global) -> Result<(), AllocError> {
+    let ended = first_run(rt, alloc)?;
+    expect_first(rt, alloc, &ended)
+}
+
 #[test]
 fn first(rt: HostRuntime) -> Result<(), Fail> {
-    let ended = first_run(&rt, rt.alloc())?;
-    expect_first(&rt, rt.alloc(), &ended)?;
+    expect_one(&rt, rt.alloc())?;
     Ok(())
 }

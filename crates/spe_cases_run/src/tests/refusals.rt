@@ -17,9 +17,12 @@ const TWO: &[&str] = &["run", "b.db", "s1", "s2"];
 
 const GOOD: Script = ("s1", b"INSERT INTO a VALUES (1, 10);");
 
+// Words, scripts, and what is printed of them.
+type Refused = (&'static [&'static str], &'static [Script], &'static str);
+
 // Words and scripts that are refused whatever the database is, and what is printed. That one is missing comes
 // first, then what is wrong with one, the first before the second, then what is not built.
-static SCRIPTS: [(&[&str], &[Script], &str); 18] = [
+static SCRIPTS: [Refused; 18] = [
     (ONE, &[], "refused no-script 1\n"),
     (TWO, &[GOOD], "refused no-script 2\n"),
     (TWO, &[], "refused no-script 1\n"),
@@ -148,12 +151,22 @@ fn refuses_empty<R: Threads + Wait + Sync>(
     refuses(rt, alloc, words, texts, disk, text)
 }
 
+fn refuses_both<R: Threads + Wait + Sync>(
+    rt: &R,
+    alloc: Global,
+    case: &Refused,
+) -> Result<bool, AllocError> {
+    let (words, texts, text) = *case;
+    let sound = refuses_sound(rt, alloc, words, texts, text)?;
+    let empty = refuses_empty(rt, alloc, words, texts, text)?;
+    Ok(sound && empty)
+}
+
 #[test]
 fn scripts(rt: HostRuntime) -> Result<(), Fail> {
-    for (words, texts, text) in &SCRIPTS {
-        let sound = refuses_sound(&rt, rt.alloc(), *words, *texts, *text)?;
-        let empty = refuses_empty(&rt, rt.alloc(), *words, *texts, *text)?;
-        expect(&rt, *text, 0, sound && empty);
+    for case in &SCRIPTS {
+        let holds = refuses_both(&rt, rt.alloc(), case)?;
+        expect(&rt, case.2, 0, holds);
     }
     Ok(())
 }

@@ -1,6 +1,8 @@
 //! What is printed of transactions and their replies, and the rows that they leave.
 
-use super::run::{ALL, Ended, Left, Script, expect, leaves, no_faults, run_of, two_disk};
+use super::run::{
+    ALL, Ended, Left, Script, expect, is_printed, leaves, no_faults, run_of, two_disk,
+};
 use std::alloc::{AllocError, Global};
 use std::sync::Wait;
 use std::test::Fail;
@@ -111,10 +113,6 @@ fn case_run<R: Threads + Wait + Sync>(
 ) -> Result<Ended, AllocError> {
     let disk = two_disk(alloc, no_faults(alloc))?;
     run_of(rt, alloc, case.words, case.scripts, disk)
-}
-
-fn is_printed(ended: &Ended, text: &str) -> bool {
-    ended.finished.status == 0 && ended.sink.as_slice() == text.as_bytes()
 }
 
 // Whether a run printed its case's text, and leaves what its case leaves.

@@ -139,6 +139,20 @@ pub fn ended_of<R: Threads + Wait + Sync>(
     })
 }
 
+// Runs the program over a disk, with these scripts and a sink that takes all.
+fn run_with<R: Threads + Wait + Sync>(
+    rt: &R,
+    alloc: Global,
+    words: &[&str],
+    scripts: &mut MemScripts,
+    disk: MemDisk,
+) -> Result<Ended, AllocError>
+    requires { is_attached disk ≡ false }
+{
+    let sink = sink_of(alloc, 1 << 16, &[])?;
+    ended_of(rt, alloc, words, disk, scripts, sink)
+}
+
 /// Runs the program over a disk, with scripts of these texts.
 pub fn run_of<R: Threads + Wait + Sync>(
     rt: &R,
@@ -149,9 +163,8 @@ pub fn run_of<R: Threads + Wait + Sync>(
 ) -> Result<Ended, AllocError>
     requires { is_attached disk ≡ false }
 {
-    let sink = sink_of(alloc, 1 << 16, &[])?;
     let mut scripts = scripts_of(alloc, texts, &[])?;
-    ended_of(rt, alloc, words, disk, &mut scripts, sink)
+    run_with(rt, alloc, words, &mut scripts, disk)
 }
 
 /// Whether a run ended with this status and text, and so many operations were made.
@@ -159,6 +172,23 @@ pub fn is_ended(ended: &Ended, status: u8, text: &str, ops: u64) -> bool {
     ended.finished.status == status
         && ended.sink.as_slice() == text.as_bytes()
         && ended.disk.ops() == ops
+}
+
+/// Whether a run ended well with this text.
+pub fn is_printed(ended: &Ended, text: &str) -> bool {
+    ended.finished.status == 0 && ended.sink.as_slice() == text.as_bytes()
+}
+
+// Runs the program over what a disk holds after so many operations, and so many bytes of the next.
+fn run_stopped<R: Threads + Wait + Sync>(
+    rt: &R,
+    alloc: Global,
+    words: &[&str],
+    disk: &MemDisk,
+    stop: (usize, usize),
+) -> Result<Ended, AllocError> {
+    let left = stopped_at(alloc, disk, stop.0, stop.1)?;
+    run_of(rt, alloc, words, &[], left)
 }
 
 /// Whether the program over what a disk holds after so many operations, and so many bytes of the next,
@@ -171,9 +201,8 @@ pub fn prints<R: Threads + Wait + Sync>(
     stop: (usize, usize),
     text: &str,
 ) -> Result<bool, AllocError> {
-    let left = stopped_at(alloc, disk, stop.0, stop.1)?;
-    let ended = run_of(rt, alloc, words, &[], left)?;
-    Ok(ended.finished.status == 0 && ended.sink.as_slice() == text.as_bytes())
+    let ended = run_stopped(rt, alloc, words, disk, stop)?;
+    Ok(is_printed(&ended, text))
 }
 
 /// A transaction over one page, and then one over another.
