@@ -126,23 +126,27 @@ fn has_failed<R: Threads + Wait + Sync>(
     Ok(printed && left)
 }
 
-// A journal that is not made.
-fn fails_early<R: Threads + Wait + Sync>(
+// Whether a run of these scripts, of which an operation fails, made all the same or not, is printed so and
+// leaves this.
+fn fails<R: Threads + Wait + Sync>(
     rt: &R,
     alloc: Global,
+    scripts: &[Script],
     op: u64,
     made: bool,
+    text: &str,
+    left: &Left,
 ) -> Result<bool, AllocError> {
-    let ended = failed_run(rt, alloc, &PAIR, op, made)?;
-    let ops = whole_ops(op, made);
-    has_failed(rt, alloc, &ended, "fault disk\n", ops, &NEITHER)
+    let ended = failed_run(rt, alloc, scripts, op, made)?;
+    has_failed(rt, alloc, &ended, text, whole_ops(op, made), left)
 }
 
+// A journal that is not made.
 #[test]
 fn early(rt: HostRuntime) -> Result<(), Fail> {
     for op in 1..=16u64 {
         for made in [false, true] {
-            let holds = fails_early(&rt, rt.alloc(), op, made)?;
+            let holds = fails(&rt, rt.alloc(), &PAIR, op, made, "fault disk\n", &NEITHER)?;
             expect(&rt, "journals", op, holds);
         }
     }
@@ -150,48 +154,37 @@ fn early(rt: HostRuntime) -> Result<(), Fail> {
 }
 
 // The rows are there only where the journal was cut.
-fn fails_pair<R: Threads + Wait + Sync>(
-    rt: &R,
-    alloc: Global,
-    op: u64,
-    made: bool,
-    text: &str,
-) -> Result<bool, AllocError> {
-    let ended = failed_run(rt, alloc, &PAIR, op, made)?;
-    let ops = whole_ops(op, made);
-    let left = if ops < 22 { &NEITHER } else { &BOTH };
-    has_failed(rt, alloc, &ended, text, ops, left)
+fn pair_left(op: u64, made: bool) -> &'static Left {
+    if whole_ops(op, made) < 22 {
+        &NEITHER
+    } else {
+        &BOTH
+    }
 }
 
 #[test]
 fn pair(rt: HostRuntime) -> Result<(), Fail> {
     for (op, text) in &PAIR_TEXTS {
         for made in [false, true] {
-            let holds = fails_pair(&rt, rt.alloc(), *op, made, *text)?;
+            let left = pair_left(*op, made);
+            let holds = fails(&rt, rt.alloc(), &PAIR, *op, made, *text, left)?;
             expect(&rt, "pair", *op, holds);
         }
     }
     Ok(())
 }
 
-fn fails_both<R: Threads + Wait + Sync>(
-    rt: &R,
-    alloc: Global,
-    op: u64,
-    made: bool,
-    text: &str,
-) -> Result<bool, AllocError> {
-    let ended = failed_run(rt, alloc, &BOTH_SCRIPTS, op, made)?;
+fn both_left(op: u64, made: bool) -> &'static Left {
     let ops = whole_ops(op, made);
-    let left = left_by(20 <= ops, 24 <= ops);
-    has_failed(rt, alloc, &ended, text, ops, left)
+    left_by(20 <= ops, 24 <= ops)
 }
 
 #[test]
 fn both(rt: HostRuntime) -> Result<(), Fail> {
     for (op, text) in &BOTH_TEXTS {
         for made in [false, true] {
-            let holds = fails_both(&rt, rt.alloc(), *op, made, *text)?;
+            let left = both_left(*op, made);
+            let holds = fails(&rt, rt.alloc(), &BOTH_SCRIPTS, *op, made, *text, left)?;
             expect(&rt, "both", *op, holds);
         }
     }
